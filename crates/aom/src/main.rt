@@ -13,32 +13,32 @@ ghost use Rattle.aom_commands.specs.Beside.{AreNew};
 use aom_command_line::{RunWords, TriesWords, Words, WordsFault, read_words};
 use aom_commands::{
     ExitStatus, Fault, asm_bytes, check_bytes, dis_bytes, dot_bytes, explore_bytes, prices_bytes,
-    run_bytes, tell,
+    report, run_bytes,
 };
 use aom_debug::debug_bytes;
-use aom_explaining::{
-    asm_explained, check_by_text, check_explained, check_lined, debug_named, dot_named,
-    explore_by_text, prices_named, run_by_text, run_explained, run_named, tell_explained,
-    tell_lined, tell_unread,
+use aom_diagnostic_commands::{
+    asm_explained, check_as_line, check_by_text, check_explained, debug_named, dot_named,
+    explore_by_text, prices_named, report_as_line, report_explained, report_unread, run_by_text,
+    run_explained, run_named,
 };
-use aom_host::{Input, Output, Unready, read_file};
-use aom_injection::{Part, Tries};
+use aom_fault_injection::{Part, Tries};
+use aom_host::{Input, Output, ReadError, read_file};
 use aom_natives::{Counter, Delay, Line, Native, NativeKind};
 use aom_transcript::{Sink, write_text};
-use program::{Program, Telling};
+use program::{Program, Reporting};
 use std::alloc::Global;
 use std::env;
 use std::io::{self, BufWriter, Write};
 use std::process::ExitCode;
 
 /// The most reads of standard input.
-const MOST_READS: u64 = 1 << 32;
+const MAX_READS: u64 = 1 << 32;
 
 fn main(rt: HostRuntime) -> ExitCode {
     let mut errors = Output::new(rt.stderr());
     let status = match BufWriter::new(rt.alloc(), rt.stdout()) {
         Ok(writer) => serve(&rt, Output::new(writer), &mut errors),
-        Err(_) => tell(&Fault::Memory, &mut errors),
+        Err(_) => report(&Fault::Memory, &mut errors),
     };
     ExitCode::from(status.number())
 }
@@ -57,7 +57,7 @@ fn serve<W: Write + Drop, E: Sink>(
         Err(fault) => (refuse(rt, fault, false, errors), false),
     };
     if out.fails_at_end() {
-        return tell_or_explain(rt, &Fault::Write, explain, errors);
+        return report_or_explain(rt, &Fault::Write, explain, errors);
     }
     status
 }
@@ -75,16 +75,16 @@ fn asks_to_explain(words: &[String]) -> bool {
 }
 
 /// Tells a fault that has come before any file was looked at, or after all, and explains it where that is asked.
-fn tell_or_explain<E: Sink>(
+fn report_or_explain<E: Sink>(
     rt: &HostRuntime,
     fault: &Fault,
     explain: bool,
     errors: &mut E,
 ) -> ExitStatus {
     if explain {
-        return tell_explained(rt.alloc(), fault, b"", b"", errors);
+        return report_explained(rt.alloc(), fault, b"", b"", errors);
     }
-    tell(fault, errors)
+    report(fault, errors)
 }
 
 /// The words that the system has handed over. One that is no text is no word of any command.
@@ -109,27 +109,27 @@ fn answer<W: Sink, E: Sink>(
     errors: &mut E,
 ) -> ExitStatus {
     match read_words(rt.alloc(), words) {
-        Ok(words) => match obey(rt, &words, out, errors) {
+        Ok(words) => match execute(rt, &words, out, errors) {
             Ok(status) => status,
-            Err(unready) => tell_unready(rt, unready, explain, errors),
+            Err(unready) => report_read_error(rt, unready, explain, errors),
         },
         Err(fault) => refuse(rt, fault, explain, errors),
     }
 }
 
 /// Tells why the command has not begun: which file cannot be read, and why, where that is to be explained.
-fn tell_unready<E: Sink>(
+fn report_read_error<E: Sink>(
     rt: &HostRuntime,
-    unready: Unready<'_>,
+    unready: ReadError<'_>,
     explain: bool,
     errors: &mut E,
 ) -> ExitStatus {
     match unready {
-        Unready::File { name, why } if explain => {
-            tell_unread(rt.alloc(), name.as_bytes(), why.as_bytes(), errors)
+        ReadError::File { name, why } if explain => {
+            report_unread(rt.alloc(), name.as_bytes(), why.as_bytes(), errors)
         }
-        Unready::File { .. } => tell(&Fault::File, errors),
-        Unready::Memory => tell_or_explain(rt, &Fault::Memory, explain, errors),
+        ReadError::File { .. } => report(&Fault::File, errors),
+        ReadError::Memory => report_or_explain(rt, &Fault::Memory, explain, errors),
     }
 }
 
@@ -145,18 +145,18 @@ fn refuse<E: Sink>(
             write_text(errors, text.as_bytes());
             ExitStatus::CallRefused
         }
-        WordsFault::Native => tell_or_explain(rt, &Fault::Native, explain, errors),
-        WordsFault::Memory => tell_or_explain(rt, &Fault::Memory, explain, errors),
+        WordsFault::Native => report_or_explain(rt, &Fault::Native, explain, errors),
+        WordsFault::Memory => report_or_explain(rt, &Fault::Memory, explain, errors),
     }
 }
 
 /// Reads the files and runs the command. All files are read before anything is looked at.
-fn obey<'a, W: Sink, E: Sink>(
+fn execute<'a, W: Sink, E: Sink>(
     rt: &HostRuntime,
     words: &'a Words,
     out: &mut W,
     errors: &mut E,
-) -> Result<ExitStatus, Unready<'a>>
+) -> Result<ExitStatus, ReadError<'a>>
     requires limit { KeepsLimit words.now }
 {
     let alloc = rt.alloc();
@@ -169,8 +169,8 @@ fn obey<'a, W: Sink, E: Sink>(
             lines,
             text,
         } => {
-            let telling = telling_of(*explain, *lines, text.as_ref().unwrap_or(image));
-            check_beside(rt, image, text, *asm, *prices, telling, out, errors)
+            let reporting = reporting_of(*explain, *lines, text.as_ref().unwrap_or(image));
+            check_beside(rt, image, text, *asm, *prices, reporting, out, errors)
         }
         Words::Run {
             run,
@@ -192,7 +192,7 @@ fn obey<'a, W: Sink, E: Sink>(
         Words::Dis { image } => Ok(dis_bytes(alloc, &read_file(rt, image)?, out, errors)),
         Words::Dot { image, asm, text } => {
             let program = Program::read(rt, image, text)?;
-            match program.ready(alloc, *asm, Telling::Plain, errors) {
+            match program.ready(alloc, *asm, Reporting::Plain, errors) {
                 Ok(program) => Ok(draw_program(alloc, &program, out, errors)),
                 Err(status) => Ok(status),
             }
@@ -201,11 +201,11 @@ fn obey<'a, W: Sink, E: Sink>(
 }
 
 /// How a fault of an image is told whose text has that name.
-fn telling_of(explain: bool, lines: bool, file: &String) -> Telling<'_> {
+fn reporting_of(explain: bool, lines: bool, file: &String) -> Reporting<'_> {
     if lines {
-        Telling::Lined(file.as_bytes())
+        Reporting::AsLine(file.as_bytes())
     } else {
-        Telling::of_flag(explain)
+        Reporting::of_flag(explain)
     }
 }
 
@@ -216,19 +216,19 @@ fn check_beside<'a, W: Sink, E: Sink>(
     text: &'a Option<String>,
     asm: bool,
     prices: bool,
-    telling: Telling<'_>,
+    reporting: Reporting<'_>,
     out: &mut W,
     errors: &mut E,
-) -> Result<ExitStatus, Unready<'a>> {
+) -> Result<ExitStatus, ReadError<'a>> {
     let alloc = rt.alloc();
     match Program::read(rt, image, text) {
-        Ok(program) => match program.ready(alloc, asm, telling, errors) {
-            Ok(program) => Ok(check_program(alloc, &program, prices, telling, out, errors)),
+        Ok(program) => match program.ready(alloc, asm, reporting, errors) {
+            Ok(program) => Ok(check_program(alloc, &program, prices, reporting, out, errors)),
             Err(status) => Ok(status),
         },
-        Err(Unready::File { name, .. }) if matches!(telling, Telling::Lined(_)) => {
+        Err(ReadError::File { name, .. }) if matches!(reporting, Reporting::AsLine(_)) => {
             let name = name.as_bytes();
-            Ok(tell_lined(alloc, name, None, &Fault::File, errors))
+            Ok(report_as_line(alloc, name, None, &Fault::File, errors))
         }
         Err(unready) => Err(unready),
     }
@@ -239,18 +239,20 @@ fn check_program<W: Sink, E: Sink>(
     alloc: Global,
     program: &Program,
     prices: bool,
-    telling: Telling<'_>,
+    reporting: Reporting<'_>,
     out: &mut W,
     errors: &mut E,
 ) -> ExitStatus {
     let image = &program.image;
-    match (telling, &program.text) {
-        (Telling::Lined(file), Some(text)) => {
-            check_lined(alloc, image, text, file, prices, out, errors)
+    match (reporting, &program.text) {
+        (Reporting::AsLine(file), Some(text)) => {
+            check_as_line(alloc, image, text, file, prices, out, errors)
         }
-        (Telling::Explained, Some(text)) => check_by_text(alloc, image, text, prices, out, errors),
-        (Telling::Explained, None) => check_explained(alloc, image, prices, out, errors),
-        (Telling::Plain, Some(text)) if prices => prices_named(alloc, image, text, out, errors),
+        (Reporting::Explained, Some(text)) => check_by_text(
+            alloc, image, text, prices, out, errors,
+        ),
+        (Reporting::Explained, None) => check_explained(alloc, image, prices, out, errors),
+        (Reporting::Plain, Some(text)) if prices => prices_named(alloc, image, text, out, errors),
         _ if prices => prices_bytes(alloc, image, out, errors),
         _ => check_bytes(alloc, image, out, errors),
     }
@@ -281,7 +283,7 @@ impl RunFiles {
         rt: &HostRuntime,
         run: &'a RunWords,
         text: &'a Option<String>,
-    ) -> Result<RunFiles, Unready<'a>> {
+    ) -> Result<RunFiles, ReadError<'a>> {
         Ok(RunFiles {
             program: Program::read(rt, &run.image, text)?,
             script: read_file(rt, &run.script)?,
@@ -293,11 +295,11 @@ impl RunFiles {
         self,
         alloc: Global,
         asm: bool,
-        telling: Telling<'_>,
+        reporting: Reporting<'_>,
         errors: &mut E,
     ) -> Result<RunFiles, ExitStatus> {
         let script = self.script;
-        let program = self.program.ready(alloc, asm, telling, errors)?;
+        let program = self.program.ready(alloc, asm, reporting, errors)?;
         Ok(RunFiles { program, script })
     }
 }
@@ -359,12 +361,11 @@ impl Purpose {
                 let mut out = Output::new(rt.stdout());
                 match &files.program.text {
                     Some(text) => debug_named(
-                        alloc, image, text, script, limit, boxes, &mut input, MOST_READS, &mut out,
+                        alloc, image, text, script, limit, boxes, &mut input, MAX_READS, &mut out,
                         errors,
                     ),
                     None => debug_bytes(
-                        alloc, image, script, limit, boxes, &mut input, MOST_READS, &mut out,
-                        errors,
+                        alloc, image, script, limit, boxes, &mut input, MAX_READS, &mut out, errors,
                     ),
                 }
             }
@@ -380,12 +381,12 @@ fn run_beside<'a, W: Sink, E: Sink>(
     purpose: Purpose,
     out: &mut W,
     errors: &mut E,
-) -> Result<ExitStatus, Unready<'a>>
+) -> Result<ExitStatus, ReadError<'a>>
     requires limit { (1 ≤ run.now.limit) × (run.now.limit ≤ 1000000000) }
 {
     let files = RunFiles::read(rt, run, text)?;
-    let telling = Telling::of_flag(matches!(purpose, Purpose::Explain { .. }));
-    match files.ready(rt.alloc(), run.asm, telling, errors) {
+    let reporting = Reporting::of_flag(matches!(purpose, Purpose::Explain { .. }));
+    match files.ready(rt.alloc(), run.asm, reporting, errors) {
         Ok(files) => {
             let kinds = run.natives.as_slice();
             let ended = run_files(rt, purpose, run, kinds, &files, out, errors);
@@ -405,7 +406,7 @@ fn run_files<'a, W: Sink, E: Sink>(
     files: &RunFiles,
     out: &mut W,
     errors: &mut E,
-) -> Result<ExitStatus, Unready<'a>>
+) -> Result<ExitStatus, ReadError<'a>>
     requires limit { (1 ≤ run.now.limit) × (run.now.limit ≤ 1000000000) }
     requires kinds { kinds.now ≡ run.now.natives.items }
 {
@@ -442,11 +443,11 @@ fn explore_beside<'a, W: Sink, E: Sink>(
     tries: Tries,
     out: &mut W,
     errors: &mut E,
-) -> Result<ExitStatus, Unready<'a>>
+) -> Result<ExitStatus, ReadError<'a>>
     requires limit { (1 ≤ run.now.limit) × (run.now.limit ≤ 1000000000) }
 {
     let files = RunFiles::read(rt, run, text)?;
-    match files.ready(rt.alloc(), run.asm, Telling::Plain, errors) {
+    match files.ready(rt.alloc(), run.asm, Reporting::Plain, errors) {
         Ok(files) => {
             let ended = explore_files(rt.alloc(), run, tries, &files, out, errors);
             drop(files);

@@ -2,9 +2,9 @@
 ghost use Rattle.std.specs.Prelude.{◌≡◌, IfOk, IfErr, Some, false, true};
 ghost use Rattle.aom_commands.specs.Assembly.{Makes, RefusesText};
 
-use aom_commands::{ExitStatus, Fault, assemble_bytes, tell};
-use aom_explaining::{tell_explained, tell_lined};
-use aom_host::{Unready, read_file};
+use aom_commands::{ExitStatus, Fault, assemble_bytes, report};
+use aom_diagnostic_commands::{report_as_line, report_explained};
+use aom_host::{ReadError, read_file};
 use aom_transcript::Sink;
 use std::alloc::Global;
 use std::mem;
@@ -19,22 +19,22 @@ pub struct Program {
 
 /// How a fault is told.
 #[derive(Clone, Copy)]
-pub enum Telling<'a> {
+pub enum Reporting<'a> {
     /// By its line alone.
     Plain,
     /// By its line, with what it means behind it.
     Explained,
     /// In one line of the text's file, which has that name.
-    Lined(&'a [u8]),
+    AsLine(&'a [u8]),
 }
 
-impl<'a> Telling<'a> {
+impl<'a> Reporting<'a> {
     /// By its line alone, or explained.
-    pub fn of_flag(explain: bool) -> Telling<'a> {
+    pub fn of_flag(explain: bool) -> Reporting<'a> {
         if explain {
-            Telling::Explained
+            Reporting::Explained
         } else {
-            Telling::Plain
+            Reporting::Plain
         }
     }
 }
@@ -45,7 +45,7 @@ impl Program {
         rt: &HostRuntime,
         image: &'a String,
         text: &'a Option<String>,
-    ) -> Result<Program, Unready<'a>> {
+    ) -> Result<Program, ReadError<'a>> {
         let text = match text {
             Some(name) => Some(read_file(rt, name)?),
             None => None,
@@ -59,7 +59,7 @@ impl Program {
         mut self,
         alloc: Global,
         asm: bool,
-        telling: Telling<'_>,
+        reporting: Reporting<'_>,
         errors: &mut E,
     ) -> Result<Program, ExitStatus>
         ensures image { IfOk result (λ p. asm ≡ true → Makes self.image.items p.image.items) }
@@ -73,7 +73,7 @@ impl Program {
         match self.assemble(alloc) {
             Ok(()) => Ok(self),
             Err(fault) => {
-                let status = refuse(alloc, &fault, &self.image, telling, errors);
+                let status = refuse(alloc, &fault, &self.image, reporting, errors);
                 drop(self);
                 Err(status)
             }
@@ -98,13 +98,13 @@ fn refuse<E: Sink>(
     alloc: Global,
     fault: &Fault,
     text: &[u8],
-    telling: Telling<'_>,
+    reporting: Reporting<'_>,
     errors: &mut E,
 ) -> ExitStatus {
-    match telling {
-        Telling::Plain => tell(fault, errors),
-        Telling::Explained => tell_explained(alloc, fault, b"", text, errors),
-        Telling::Lined(file) => tell_lined(alloc, file, line_of(fault), fault, errors),
+    match reporting {
+        Reporting::Plain => report(fault, errors),
+        Reporting::Explained => report_explained(alloc, fault, b"", text, errors),
+        Reporting::AsLine(file) => report_as_line(alloc, file, line_of(fault), fault, errors),
     }
 }
 

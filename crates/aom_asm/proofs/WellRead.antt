@@ -48,12 +48,12 @@ program h cs ms b size = record { header = h; classes = cs; methods = ms; body =
 abbrev pub class_bytes : Version → ClassDecl → ℕ
 class_bytes version c = 28 + family_bytes version
 
-abbrev pub spelled : Version → Method → ℕ
-spelled version m = 24 + family_bytes version + 8 * length m.code
+abbrev pub serialized : Version → Method → ℕ
+serialized version m = 24 + family_bytes version + 8 * length m.code
 
-abbrev spelled_open : Version → Option Body → ℕ
-spelled_open version None = 0
-spelled_open version (Some b) = 24 + family_bytes version + 8 * length b.code
+abbrev serialized_open : Version → Option Body → ℕ
+serialized_open version None = 0
+serialized_open version (Some b) = 24 + family_bytes version + 8 * length b.code
 
 -- classes are all of the same size
 pub class_sizes : (version : Version) (cs : List ClassDecl) → sum_by (class_bytes version) cs ≡ (28 + family_bytes version) * length cs
@@ -88,7 +88,7 @@ record Done (scope : Scope) (h : Header) (cs : List ClassDecl) (ms : List Method
   classes : All (ClassFits h.version (length scope.classes) h.natives) cs
   parents : All (λ c. ParentFits h.version (length scope.classes) c.kind c.parent) cs
   servers : count_by is_server cs ≤ 8
-  overs : scope.is_strict ≡ true → All (λ m. OverFits h.version (length scope.methods) m.over) ms
+  overridden_methods : scope.is_strict ≡ true → All (λ m. OverFits h.version (length scope.methods) m.over) ms
   methods : scope.is_strict ≡ true → All (MethodFits h.version (length scope.classes) (length scope.methods)) ms
 
 -- and of the method that is open, with the names of classes and methods that are still to come
@@ -96,7 +96,7 @@ record Holds (scope : Scope) (h : Header) (cs : List ClassDecl) (ms : List Metho
   class_names : length cs + classes_left ≡ length scope.classes
   method_names : length ms + open_count o + methods_left ≡ length scope.methods
   few_methods : length ms + open_count o ≤ 1024
-  spelling : size ≡ 24 + sum_by (class_bytes h.version) cs + sum_by (spelled h.version) ms + spelled_open h.version o
+  serialization : size ≡ 24 + sum_by (class_bytes h.version) cs + sum_by (serialized h.version) ms + serialized_open h.version o
   short : size ≤ 2 ^ 20
   done : Done scope h cs ms
 
@@ -138,7 +138,7 @@ module _ (headers : HeadersInRange) (classes_in : ClassesInRange) (headings : He
       sum_by_push (class_bytes h.version) cs c in
       let names = holds.class_names in
       let methods = holds.method_names in
-      let spelling = holds.spelling in
+      let serialization = holds.serialization in
       let servers : count_by is_server (cs ++ c ∷ []) ≤ 8 =
       subst (λ n. n ≤ 8) (sym (counted_push cs c)) (few_counted (count_by is_server cs) (is_server c) range.server holds.done.servers) in
       subst (λ q. Read scope q ss) (ok_is (program h (cs ++ c ∷ []) ms None t.first) q t.second) (record {
@@ -146,7 +146,7 @@ module _ (headers : HeadersInRange) (classes_in : ClassesInRange) (headings : He
           class_names = omega arith;
           method_names = omega arith;
           few_methods = holds.few_methods;
-          spelling = omega (arith, g.0);
+          serialization = omega (arith, g.0);
           short = g.1;
           done = record {
             few_classes = omega arith;
@@ -154,7 +154,7 @@ module _ (headers : HeadersInRange) (classes_in : ClassesInRange) (headings : He
             classes = All-push (ClassFits h.version (length scope.classes) h.natives) cs c holds.done.classes range.class;
             parents = All-push (λ c. ParentFits h.version (length scope.classes) c.kind c.parent) cs c holds.done.parents range.parent;
             servers = servers;
-            overs = holds.done.overs;
+            overridden_methods = holds.done.overridden_methods;
             methods = holds.done.methods;
           };
         };
@@ -178,9 +178,9 @@ module _ (headers : HeadersInRange) (classes_in : ClassesInRange) (headings : He
       (headings before natives scope h.version (record { is_strict = strict; kinds = settled strict }) (length ms) ws m s.first.1 s.read).heading in
       let names = holds.class_names in
       let methods = holds.method_names in
-      let spelling = holds.spelling in
+      let serialization = holds.serialization in
       subst (λ q. Read scope q ss) (ok_is (program h cs ms (begun m) t.first) q t.second) (record {
-        parts = record { class_names = omega arith; method_names = omega arith; few_methods = omega arith; spelling = omega (arith, g.0); short = g.1; done = holds.done };
+        parts = record { class_names = omega arith; method_names = omega arith; few_methods = omega arith; serialization = omega (arith, g.0); short = g.1; done = holds.done };
         body = record {
           labels = sym (length_labels [] ss);
           few = omega arith;
@@ -206,11 +206,11 @@ module _ (headers : HeadersInRange) (classes_in : ClassesInRange) (headings : He
       let longer : length (b.code ++ added ∷ []) ≡ length b.code + 1 = length-append b.code (added ∷ []) in
       let fits = InstrFits (limits h.version (length scope.classes) (length scope.methods) (length b.labels)) in
       let labels = body.labels in
-      let spelling = holds.spelling in
+      let serialization = holds.serialization in
       let same : program h cs ms (Some (longer_by added)) t.first ≡ q =
       ap (λ c. program h cs ms (Some c) t.first) (ok_is (longer_by added) s.first u.second) ∙ ok_is (program h cs ms (Some s.first) t.first) q t.second in
       subst (λ q. Read scope q ss) same (record {
-        parts = record { class_names = holds.class_names; method_names = holds.method_names; few_methods = holds.few_methods; spelling = omega (arith, g.0); short = g.1; done = holds.done };
+        parts = record { class_names = holds.class_names; method_names = holds.method_names; few_methods = holds.few_methods; serialization = omega (arith, g.0); short = g.1; done = holds.done };
         body = record {
           labels = omega arith;
           few = omega arith;
@@ -264,11 +264,11 @@ module _ (headers : HeadersInRange) (classes_in : ClassesInRange) (headings : He
       let some : length b.code ≡ 0 → ⊥ = eqb-false (length b.code) 0 i.0 in
       let longer : length (ms ++ whole ∷ []) ≡ length ms + 1 = length-append ms (whole ∷ []) in
       let places : length b.labels ≡ length b.code = (let labels = body.labels in omega arith) in
-      let summed : sum_by (spelled h.version) (ms ++ whole ∷ []) ≡ sum_by (spelled h.version) ms + spelled h.version whole =
-      sum_by_push (spelled h.version) ms whole in
+      let summed : sum_by (serialized h.version) (ms ++ whole ∷ []) ≡ sum_by (serialized h.version) ms + serialized h.version whole =
+      sum_by_push (serialized h.version) ms whole in
       let names = holds.method_names in
       let few = holds.few_methods in
-      let spelling = holds.spelling in
+      let serialization = holds.serialization in
       let same : program h cs (ms ++ whole ∷ []) None size ≡ q = ap (λ m. program h cs (ms ++ m ∷ []) None size) made
       ∙ ok_is (program h cs (ms ++ s.first ∷ []) None size) q t.second in
       subst (λ q. Read scope q ss) same (record {
@@ -276,7 +276,7 @@ module _ (headers : HeadersInRange) (classes_in : ClassesInRange) (headings : He
           class_names = holds.class_names;
           method_names = omega arith;
           few_methods = omega arith;
-          spelling = omega arith;
+          serialization = omega arith;
           short = holds.short;
           done = record {
             few_classes = holds.done.few_classes;
@@ -284,7 +284,7 @@ module _ (headers : HeadersInRange) (classes_in : ClassesInRange) (headings : He
             classes = holds.done.classes;
             parents = holds.done.parents;
             servers = holds.done.servers;
-            overs = λ strict. All-push (λ m. OverFits h.version (length scope.methods) m.over) ms whole (holds.done.overs strict) (body.heading strict).over;
+            overridden_methods = λ strict. All-push (λ m. OverFits h.version (length scope.methods) m.over) ms whole (holds.done.overridden_methods strict) (body.heading strict).over;
             methods = λ strict. All-push (MethodFits h.version (length scope.classes) (length scope.methods)) ms whole
                 (holds.done.methods strict) (method_fits h.version b left body strict places (omega (arith, some)));
           };
@@ -400,7 +400,7 @@ module _ (headers : HeadersInRange) (classes_in : ClassesInRange) (headings : He
           class_names = omega (arith, class_names, declares_more k.Class s ss 0 silent.class);
           method_names = omega (arith, method_names, declares_more k.Method s ss 0 silent.method);
           few_methods = omega arith;
-          spelling = refl;
+          serialization = refl;
           short = omega arith;
           done = record {
             few_classes = omega arith;
@@ -408,7 +408,7 @@ module _ (headers : HeadersInRange) (classes_in : ClassesInRange) (headings : He
             classes = All-nil (ClassFits t.first.0.version (length scope.classes) t.first.0.natives);
             parents = All-nil (λ c. ParentFits t.first.0.version (length scope.classes) c.kind c.parent);
             servers = omega arith;
-            overs = λ strict. All-nil (λ m. OverFits t.first.0.version (length scope.methods) m.over);
+            overridden_methods = λ strict. All-nil (λ m. OverFits t.first.0.version (length scope.methods) m.over);
             methods = λ strict. All-nil (MethodFits t.first.0.version (length scope.classes) (length scope.methods));
           };
         };
@@ -427,7 +427,7 @@ module _ (headers : HeadersInRange) (classes_in : ClassesInRange) (headings : He
       let method_names = parts.method_names in
       let few = parts.few_methods in
       let short = parts.short in
-      let spelling = parts.spelling in
+      let serialization = parts.serialization in
       let class_count : length scope.classes ≡ length q.classes = omega (arith, declares_none k.Class) in
       let method_count : length scope.methods ≡ length q.methods = omega (arith, declares_none k.Method) in
       let classes : ClassesFit q.header.version q.header.natives q.classes =
@@ -439,7 +439,7 @@ module _ (headers : HeadersInRange) (classes_in : ClassesInRange) (headings : He
       let v = q.header.version in
       let families : FamiliesFit v q.classes q.methods = record {
         parents = subst (λ n. All (λ c. ParentFits v n c.kind c.parent) q.classes) class_count parts.done.parents;
-        overs = subst (λ n. All (λ m. OverFits v n m.over) q.methods) method_count (parts.done.overs strict);
+        overridden_methods = subst (λ n. All (λ m. OverFits v n m.over) q.methods) method_count (parts.done.overridden_methods strict);
       } in
       record {
         header = subst (λ n. HeaderFits n q.header) class_count (parts.done.header strict);

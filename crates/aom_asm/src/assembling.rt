@@ -13,7 +13,7 @@ use aom_text::{AsmFault, AsmFaultKind, Statement, StatementCursor, last_line};
 use std::alloc::{AllocError, Global};
 
 /// The most bytes of a text.
-const MOST_BYTES: usize = 1 << 20;
+const MAX_BYTES: usize = 1 << 20;
 
 fn at_line<T>(line: u32, said: Result<T, AsmFaultKind>) -> Result<T, AsmFault>
     ensures { result ≡ at_line line said }
@@ -142,7 +142,7 @@ fn last_line_of(text: &[u8]) -> u32
 fn read_text<'a>(alloc: Global, text: &'a [u8]) -> Result<ParsedProgram<'a>, AsmFault>
     ensures { Answers image_of result (denoted text.now) }
 {
-    if text.len() > MOST_BYTES {
+    if text.len() > MAX_BYTES {
         return Err(AsmFault {
             line: 1,
             kind: AsmFaultKind::LimitPassed,

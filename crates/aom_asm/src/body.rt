@@ -29,7 +29,7 @@ impl<'a> Body<'a> {
     pub fn open(alloc: Global, heading: Heading, labels: NameList<'a>) -> Body<'a>
         ensures { result ≡ record { heading = heading; labels = labels.entry; code = [] } }
     {
-        let _told: Option<Target> = None;
+        let _reported: Option<Target> = None;
         Body {
             heading,
             labels,
@@ -46,7 +46,7 @@ impl<'a> Body<'a> {
     ) -> Result<(), AsmFaultKind>
         ensures { ReadsOrNoMemory (λ _. self.new) result (with_instruction scope.now version self.old reader.entry) }
     {
-        let _told: Option<Target> = None;
+        let _reported: Option<Target> = None;
         let place = self.code.len();
         if place >= 1024 {
             return Err(AsmFaultKind::LimitPassed);
@@ -60,7 +60,7 @@ impl<'a> Body<'a> {
     pub fn close(self) -> Result<Method, AsmFaultKind>
         ensures { result ≡ method_of self.entry }
     {
-        let _told: Option<Target> = None;
+        let _reported: Option<Target> = None;
         if self.code.is_empty() {
             drop(self);
             return Err(AsmFaultKind::LimitPassed);

@@ -13,7 +13,7 @@ use std::alloc::Global;
 use std::marker::Model;
 
 /// The most bytes of an image.
-const MOST_BYTES: usize = 1 << 20;
+const MAX_BYTES: usize = 1 << 20;
 
 /// What was read, and how many bytes will spell it.
 #[derive(Drop)]
@@ -42,7 +42,7 @@ fn grown(bytes: usize, size: usize) -> Result<usize, AsmFaultKind>
     ensures read { result ≡ grown bytes size }
     ensures within { IfOk result (λ n. n ≤ 2 ^ 20) }
 {
-    if size + bytes <= MOST_BYTES {
+    if size + bytes <= MAX_BYTES {
         Ok(size + bytes)
     } else {
         Err(AsmFaultKind::LimitPassed)
@@ -122,13 +122,13 @@ impl<'a> ParsedProgram<'a> {
         let labels = labels_of(alloc, text.again())?;
         let version = self.header.version;
         let heading = reader.heading(alloc, scope, version, place)?;
-        self.hold(Body::open(alloc, heading, labels));
+        self.open_body(Body::open(alloc, heading, labels));
         self.size = grown(24 + version.family_bytes(), self.size)?;
         Ok(())
     }
 
     /// Adds what a statement says of the method that is open: its end, or an instruction.
-    fn go_on(
+    fn add_to_method(
         &mut self,
         scope: &Scope,
         mut body: Body<'a>,
@@ -141,7 +141,7 @@ impl<'a> ParsedProgram<'a> {
             self.add_method(body, reader)
         } else {
             let added = body.add(scope, self.header.version, reader);
-            self.hold(body);
+            self.open_body(body);
             added?;
             self.size = grown(8, self.size)?;
             Ok(())
@@ -168,13 +168,13 @@ impl<'a> ParsedProgram<'a> {
         ensures { ReadsOrNoMemory (λ _. self.new) result (step scope.now text.now self.old reader.entry) }
     {
         match self.take_body() {
-            Some(body) => self.go_on(scope, body, reader),
+            Some(body) => self.add_to_method(scope, body, reader),
             None => self.declare(alloc, scope, reader, text),
         }
     }
 
     /// From here on that method is open.
-    fn hold(&mut self, body: Body<'a>)
+    fn open_body(&mut self, body: Body<'a>)
         ensures { self.new ≡ record self.old { body = Some body.entry } }
     {
         self.body = Some(body);

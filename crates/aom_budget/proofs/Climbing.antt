@@ -6,7 +6,7 @@ use Rattle.std.proofs.lemmas.Bool.{eqb-true}
 use Rattle.aom_image.specs.Image.{Image}
 use Rattle.aom_budget.proofs.RolesLemmas.{from_none, from_parent, itself, parent_below}
 use Rattle.aom_roles.specs.Families.{descends, parent_of}
-use Rattle.aom_classes.specs.Overriding.{leads_in, over_of}
+use Rattle.aom_link_conditions.specs.Overriding.{leads_in, overridden_method}
 
 -- what is raised by a number, where one of two counts
 or_raised : (a b : Bool) (x v : ℕ) → max x (cond (a || b) v 0) ≡ max (max x (cond a v 0)) (cond b v 0)
@@ -15,9 +15,9 @@ or_raised x y z v = grind arith
 -- ---- along overriders
 
 pub lead_step : (p : Image) (n x k t v : ℕ) →
-    max t (cond (leads_in p (suc n) (Some x) k) v 0) ≡ max (max t (cond (x == k) v 0)) (cond (leads_in p n (over_of p x) k) v 0)
+    max t (cond (leads_in p (suc n) (Some x) k) v 0) ≡ max (max t (cond (x == k) v 0)) (cond (leads_in p n (overridden_method p x) k) v 0)
 unfolding leads_in
-lead_step p n x k t v = or_raised (x == k) (leads_in p n (over_of p x) k) t v
+lead_step p n x k t v = or_raised (x == k) (leads_in p n (overridden_method p x) k) t v
 
 pub lead_last : (p : Image) (x k t v : ℕ) → max t (cond (leads_in p 0 (Some x) k) v 0) ≡ max t (cond (x == k) v 0)
 unfolding leads_in
@@ -35,7 +35,7 @@ module _ (p : Image) (n k t v w : ℕ) where
   pub lead_ends : (x i u : ℕ) (o : Option ℕ) → o ≡ Some x → i ≡ x → n ≡ 0 → u ≡ max t (cond (i == k) v 0) → max t (cond (leads_in p n o k) v 0) ≡ w → u ≡ w
   lead_ends x i u o is same last raised h = grind (arith, nat_tests, lead_last p x k t v)
 
-  pub lead_goes : (x i u : ℕ) (o next : Option ℕ) → o ≡ Some x → i ≡ x → (n ≡ 0 → ⊥) → next ≡ over_of p x → u ≡ max t (cond (i == k) v 0) →
+  pub lead_goes : (x i u : ℕ) (o next : Option ℕ) → o ≡ Some x → i ≡ x → (n ≡ 0 → ⊥) → next ≡ overridden_method p x → u ≡ max t (cond (i == k) v 0) →
       max t (cond (leads_in p n o k) v 0) ≡ w → max u (cond (leads_in p (n - 1) next k) v 0) ≡ w
   lead_goes x i u o next is same some over raised h = grind (arith, nat_tests, lead_step p (n - 1) x k t v)
 

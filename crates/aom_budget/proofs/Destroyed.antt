@@ -4,7 +4,7 @@ use Rattle.std.proofs.Common.{List, cond, Some, ap, arith, length, refl, slice_s
 use Rattle.std.specs.Prelude.{max}
 use Rattle.std.proofs.Math.Nat.{mul-le-mul_left}
 use Rattle.std.proofs.lemmas.Bool.{cases_lt}
-use Rattle.std.proofs.lemmas.Bool.Decides.{eqb_tells}
+use Rattle.std.proofs.lemmas.Bool.Decides.{eqb_reports}
 use Rattle.aom_image.specs.Image.{Image}
 use Rattle.aom_image.specs.Views.{method_at}
 use Rattle.aom_image.specs.WellFormed.{WellFormed}
@@ -14,11 +14,11 @@ use Rattle.aom_image.specs.declared.method.Thing.{Thing}
 use Rattle.aom_image.specs.declared.method.Thing.TheVariants.{Object}
 use Rattle.aom_roles.specs.Families.{descends}
 use Rattle.aom_roles.specs.Tables.{at}
-use Rattle.aom_budget.proofs.ShapeLemmas.{at_past, at_set_here, at_set_other}
-use Rattle.aom_typings.specs.Calls.{cancels, destructors}
-use Rattle.aom_typings.specs.Most.{most_below, most_of}
-use Rattle.aom_typings.specs.Sweeping.{whole_going}
-use Rattle.aom_budget.proofs.TypingsLemmas.{all_related, below_related, going_same}
+use Rattle.aom_budget.proofs.AbstractStateLemmas.{at_past, at_set_here, at_set_other}
+use Rattle.aom_static_bounds.specs.Calls.{cancels, destructors}
+use Rattle.aom_static_bounds.specs.Most.{most_below, most_of}
+use Rattle.aom_static_bounds.specs.Sweeping.{whole_going}
+use Rattle.aom_budget.proofs.StaticBoundsLemmas.{all_related, below_related, going_same}
 use Rattle.aom_budget.specs.Greatest.{IsCancelled, IsGone, most_at}
 use Rattle.aom_budget.specs.Costing.{IsDestroyed}
 use Rattle.aom_budget.specs.Pricing.{cancel_by, destruction_by, kept, price_by}
@@ -72,7 +72,7 @@ module _ (p : Image) (formed : WellFormed p) (prices : List ℕ) where
 module _ (p : Image) (ns : List ℕ) (m v : ℕ) (d : Method) (there : method_at p m ≡ Some d) where
   module _ (within : m < length ns) (low : at 0 ns m ≤ v) where
     price_grows : (k : ℕ) → at 0 ns k ≤ at 0 (slice_set ns m v) k
-    price_grows k = grind (arith, nat_tests, eqb_tells k m, at_set_here 0 ns m v within, at_set_other 0 ns m k v)
+    price_grows k = grind (arith, nat_tests, eqb_reports k m, at_set_here 0 ns m v within, at_set_other 0 ns m k v)
 
     pub destruction_grows : (x : Thing) → destruction_by p ns x ≤ destruction_by p (slice_set ns m v) x
     destruction_grows x =

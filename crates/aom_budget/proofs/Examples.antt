@@ -14,23 +14,23 @@ use Rattle.aom_image.specs.declared.method.Role.{Role}
 use Rattle.aom_image.specs.declared.method.Role.TheVariants as roles
 use Rattle.aom_image.specs.declared.method.Thing.TheVariants.{Object}
 use Rattle.aom_roles.specs.Families.{descends_in, parent_in}
-use Rattle.aom_classes.specs.Overriding.{leads_in, over_in}
+use Rattle.aom_link_conditions.specs.Overriding.{leads_in, over_in}
 use Rattle.aom_roles.specs.Classes.{kind_in, sessions_in, sessions_of}
 use Rattle.aom_roles.specs.Roles.{role_number}
-use Rattle.aom_classes.specs.Roles.{keeper_in, own_role, plays, role_of}
-use Rattle.aom_shape.specs.Shape.{Shape}
-use Rattle.aom_shape.specs.declared.kind.Delivery.TheVariants.{Here}
-use Rattle.aom_shape.specs.declared.kind.Age.TheVariants.{Ready}
-use Rattle.aom_shape.specs.declared.kind.Kind.{Kind}
-use Rattle.aom_shape.specs.declared.kind.Kind.TheVariants.{Null, Own, Maybe}
-use Rattle.aom_typings.specs.Calls.{callees, MayCall}
-use Rattle.aom_typings.specs.Depths.{Frames, IsTooDeep}
-use Rattle.aom_typings.specs.Depths.Frames.{alone, calling}
+use Rattle.aom_link_conditions.specs.Roles.{keeper_in, own_role, fills_role, role_of}
+use Rattle.aom_abstract_state.specs.AbstractState.{AbstractState}
+use Rattle.aom_abstract_state.specs.declared.kind.MessageState.TheVariants.{Here}
+use Rattle.aom_abstract_state.specs.declared.kind.InitState.TheVariants.{Ready}
+use Rattle.aom_abstract_state.specs.declared.kind.Kind.{Kind}
+use Rattle.aom_abstract_state.specs.declared.kind.Kind.TheVariants.{Null, Own, Maybe}
+use Rattle.aom_static_bounds.specs.Calls.{callees, MayCall}
+use Rattle.aom_static_bounds.specs.Depths.{Frames, IsTooDeep}
+use Rattle.aom_static_bounds.specs.Depths.Frames.{alone, calling}
 use Rattle.aom_budget.specs.Budgets.{declared_by}
-use Rattle.aom_budget.specs.Figures.{IsWithin, TellsFirst, payer_by}
+use Rattle.aom_budget.specs.Figures.{IsWithin, ReportsFirst, budget_owner_by}
 use Rattle.aom_budget.specs.Pricing.{destruction_by}
 use Rattle.aom_budget.specs.declared.fault.BudgetFault.TheVariants.{OverBudget}
-use Rattle.aom_budget.specs.declared.fault.Payer.TheVariants.{Class}
+use Rattle.aom_budget.specs.declared.fault.BudgetOwner.TheVariants.{Class}
 
 method : ℕ → Role → Method
 method class role = a_method (Some class) role 0 0 0 [] Nothing []
@@ -43,16 +43,16 @@ image = record {
   methods = method 0 roles.Destruct ∷ method 1 roles.Destruct ∷ method 1 roles.Cancel ∷ method 1 roles.Do ∷ [];
 }
 
-holding : Kind → Shape
-holding kind = record { registers = kind ∷ []; fields = []; entries = []; states = 0; delivery = Here }
+holding : Kind → AbstractState
+holding kind = record { registers = kind ∷ []; fields = []; entries = []; states = 0; message_state = Here }
 
 -- a class is listed by itself, and once more among the classes that descend from it
 delete_of_a_server : callees image 3 (holding (Own (Object 1) Ready)) (Delete 0) ≡ 1 ∷ 0 ∷ 1 ∷ 0 ∷ []
-unfolding image method holding class_at kind_in sessions_in sessions_of role_of plays role_number descends_in parent_in own_role keeper_in
+unfolding image method holding class_at kind_in sessions_in sessions_of role_of fills_role role_number descends_in parent_in own_role keeper_in
 delete_of_a_server = refl
 
 push_of_perhaps_a_session : callees image 3 (holding (Maybe (Object 0) Ready)) (Push 0) ≡ 0 ∷ 0 ∷ []
-unfolding image method holding class_at kind_in sessions_in sessions_of role_of plays role_number descends_in parent_in own_role keeper_in
+unfolding image method holding class_at kind_in sessions_in sessions_of role_of fills_role role_number descends_in parent_in own_role keeper_in
 push_of_perhaps_a_session = refl
 
 delete_of_null : callees image 3 (holding Null) (Delete 0) ≡ []
@@ -60,7 +60,7 @@ unfolding holding
 delete_of_null = refl
 
 cancel_of_its_class : callees image 3 (holding Null) Cancel ≡ 2 ∷ 2 ∷ []
-unfolding image method class_at method_at class_in role_of plays role_number descends_in parent_in own_role keeper_in
+unfolding image method class_at method_at class_in role_of fills_role role_number descends_in parent_in own_role keeper_in
 cancel_of_its_class = refl
 
 operation_is_called : callees image 3 (holding Null) (PushOperation 0 2) ≡ 2 ∷ []
@@ -76,15 +76,15 @@ pop_calls_nothing = refl
 
 -- a server goes with the four sessions that it may have
 destruction_of_a_server : destruction_by image (5 ∷ 7 ∷ 1 ∷ 1 ∷ []) (Object 1) ≡ 32
-unfolding image method class_at kind_in role_of plays role_number descends_in parent_in own_role keeper_in
+unfolding image method class_at kind_in role_of fills_role role_number descends_in parent_in own_role keeper_in
 destruction_of_a_server = refl
 
 destruction_of_a_session : destruction_by image (5 ∷ 7 ∷ 1 ∷ 1 ∷ []) (Object 0) ≡ 6
-unfolding image method class_at kind_in role_of plays role_number descends_in parent_in own_role keeper_in
+unfolding image method class_at kind_in role_of fills_role role_number descends_in parent_in own_role keeper_in
 destruction_of_a_session = refl
 
 destruction_is_kept : destruction_by image (4294967296 ∷ 7 ∷ 1 ∷ 1 ∷ []) (Object 1) ≡ 4294967296
-unfolding image method class_at kind_in role_of plays role_number descends_in parent_in own_role keeper_in
+unfolding image method class_at kind_in role_of fills_role role_number descends_in parent_in own_role keeper_in
 destruction_is_kept = refl
 
 chain : (p : Image) → IsSome (method_at p 0) → ((m : ℕ) → m < 256 → MayCall p (suc m) m) → (n : ℕ) → n ≤ 256 → Frames p n (suc n)
@@ -106,25 +106,25 @@ dispatched = record {
   methods = method 0 roles.Run ∷ method 0 roles.Error ∷ method 1 roles.Service ∷ method 2 roles.Accept ∷ method 1 roles.Destruct ∷ [];
 }
 
-active_pays_for_both : payer_by dispatched (7 ∷ 5 ∷ 1 ∷ 1 ∷ 1 ∷ []) (Class 0) ≡ 12
-unfolding dispatched method class_at role_of own_role keeper_in parent_in plays role_number
+active_pays_for_both : budget_owner_by dispatched (7 ∷ 5 ∷ 1 ∷ 1 ∷ 1 ∷ []) (Class 0) ≡ 12
+unfolding dispatched method class_at role_of own_role keeper_in parent_in fills_role role_number
 active_pays_for_both = refl
 
-sum_is_kept : payer_by dispatched (4294967296 ∷ 5 ∷ 1 ∷ 1 ∷ 1 ∷ []) (Class 0) ≡ 4294967296
-unfolding dispatched method class_at role_of own_role keeper_in parent_in plays role_number
+sum_is_kept : budget_owner_by dispatched (4294967296 ∷ 5 ∷ 1 ∷ 1 ∷ 1 ∷ []) (Class 0) ≡ 4294967296
+unfolding dispatched method class_at role_of own_role keeper_in parent_in fills_role role_number
 sum_is_kept = refl
 
-server_pays_for_accept : payer_by dispatched (7 ∷ 5 ∷ 3 ∷ 6 ∷ 4 ∷ []) (Class 2) ≡ 6
-unfolding dispatched method class_at kind_in role_of plays role_number descends_in parent_in own_role keeper_in
+server_pays_for_accept : budget_owner_by dispatched (7 ∷ 5 ∷ 3 ∷ 6 ∷ 4 ∷ []) (Class 2) ≡ 6
+unfolding dispatched method class_at kind_in role_of fills_role role_number descends_in parent_in own_role keeper_in
 server_pays_for_accept = refl
 
-server_pays_for_service : payer_by dispatched (7 ∷ 5 ∷ 8 ∷ 6 ∷ 4 ∷ []) (Class 2) ≡ 8
-unfolding dispatched method class_at kind_in role_of plays role_number descends_in parent_in own_role keeper_in
+server_pays_for_service : budget_owner_by dispatched (7 ∷ 5 ∷ 8 ∷ 6 ∷ 4 ∷ []) (Class 2) ≡ 8
+unfolding dispatched method class_at kind_in role_of fills_role role_number descends_in parent_in own_role keeper_in
 server_pays_for_service = refl
 
 -- the end of a session is a step, and its destructor
-server_pays_for_the_end : payer_by dispatched (7 ∷ 5 ∷ 3 ∷ 6 ∷ 8 ∷ []) (Class 2) ≡ 9
-unfolding dispatched method class_at kind_in role_of plays role_number descends_in parent_in own_role keeper_in
+server_pays_for_the_end : budget_owner_by dispatched (7 ∷ 5 ∷ 3 ∷ 6 ∷ 8 ∷ []) (Class 2) ≡ 9
+unfolding dispatched method class_at kind_in role_of fills_role role_number descends_in parent_in own_role keeper_in
 server_pays_for_the_end = refl
 
 sessions_declare_nothing : declared_by dispatched (Class 1) ≡ None
@@ -133,10 +133,10 @@ sessions_declare_nothing = refl
 
 -- a class that costs just what it declares is within, and one step more is over
 within_to_the_step : IsWithin dispatched (7 ∷ 5 ∷ 1 ∷ 1 ∷ 1 ∷ []) (Class 0)
-unfolding dispatched method class_at role_of own_role keeper_in parent_in plays role_number
+unfolding dispatched method class_at role_of own_role keeper_in parent_in fills_role role_number
 within_to_the_step most e = let same : 12 ≡ most = same_Some 12 most e in omega (arith, same)
 
-over_by_a_step : TellsFirst dispatched (7 ∷ 6 ∷ 1 ∷ 1 ∷ 1 ∷ []) (OverBudget (Class 0) 13 12)
-unfolding dispatched method class_at role_of own_role keeper_in parent_in plays role_number
+over_by_a_step : ReportsFirst dispatched (7 ∷ 6 ∷ 1 ∷ 1 ∷ 1 ∷ []) (OverBudget (Class 0) 13 12)
+unfolding dispatched method class_at role_of own_role keeper_in parent_in fills_role role_number
 over_by_a_step =
-    record { class = 0; tells = record { most = 12; declares = refl; over = omega arith; is = refl }; earlier = λ k below. absurd (omega (arith, below)) }
+    record { class = 0; reports = record { most = 12; declares = refl; over = omega arith; is = refl }; earlier = λ k below. absurd (omega (arith, below)) }

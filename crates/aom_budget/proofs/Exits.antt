@@ -1,17 +1,17 @@
 -- The most over the places past a loop to which an instruction goes on.
 use Rattle.std.proofs.Common.{◌≡◌, ℕ, ◌<◌, ◌≤◌, ◌+◌, ◌⊎◌, cond, List, [], ◌∷◌, Some, None, inl, inr, refl, arith}
 use Rattle.std.specs.Prelude.{nat_lt}
-use Rattle.std.proofs.lemmas.Bool.Decides.{leb_tells}
+use Rattle.std.proofs.lemmas.Bool.Decides.{leb_reports}
 use Rattle.std.proofs.lemmas.Bool.{le-ltb, lt-ltb}
 use Rattle.aom_image.specs.Image.{Image}
 use Rattle.aom_image.specs.Views.{instr_at}
 use Rattle.aom_instructions.specs.declared.instr.Instr.{Instr}
-use Rattle.aom_classes.specs.Bodies.{IsIn}
-use Rattle.aom_shape.specs.Shape.{Shape}
+use Rattle.aom_link_conditions.specs.Bodies.{IsIn}
+use Rattle.aom_abstract_state.specs.AbstractState.{AbstractState}
 use Rattle.aom_roles.specs.Tables.{at}
-use Rattle.aom_typings.specs.Shapes.{Shapes}
-use Rattle.aom_typings.specs.Calls.{Among}
-use Rattle.aom_budget.specs.Extents.{IsMost, Before}
+use Rattle.aom_static_bounds.specs.Shapes.{Shapes}
+use Rattle.aom_static_bounds.specs.Calls.{Among}
+use Rattle.aom_budget.specs.StackDepths.{IsMost, Before}
 use Rattle.aom_budget.specs.Pricing.{targets_of, most_past, ExitsAt}
 use Rattle.aom_budget.proofs.Most.{of_none, alike, of_either}
 
@@ -37,7 +37,7 @@ is_first_or_rest from last to rest n h = elim h.among [
 
 one_past : (from : List ℕ) (last to : ℕ) → cond (nat_lt last to) (at 0 from to) 0 ≤ 4294967296 →
     IsMost 4294967296 (PastOf from last (to ∷ [])) (cond (nat_lt last to) (at 0 from to) 0)
-one_past from last to low = elim (leb_tells to last) [
+one_past from last to low = elim (leb_reports to last) [
   | inl w ↦ rw (le-ltb last to w.1) (of_none 4294967296 (PastOf from last (to ∷ [])) (λ k h. elim h.among [
     | inl e ↦ let past : last < to = rw e at h.past in absurd (omega (arith, past, w.1))
     | inr none ↦ absurd none
@@ -66,7 +66,7 @@ module _ (p : Image) (m : ℕ) (s : Shapes) (from : List ℕ) (first last place 
   pub no_exit : at None s place ≡ None → IsMost 4294967296 (ExitsAt p m s from first last place) 0
   no_exit none = of_none 4294967296 (ExitsAt p m s from first last place) (λ n h. let f = h.there in cc)
 
-  pub exits : (sh : Shape) (i : Instr) (n : ℕ) → IsIn first last place → at None s place ≡ Some sh → instr_at p m place ≡ Some i →
+  pub exits : (sh : AbstractState) (i : Instr) (n : ℕ) → IsIn first last place → at None s place ≡ Some sh → instr_at p m place ≡ Some i →
       n ≡ most_past from last (targets_of p place sh i) → n ≤ 4294967296 → IsMost 4294967296 (ExitsAt p m s from first last place) n
   exits sh i n inside there stands is low =
       let most = most_of_past from last (targets_of p place sh i) (omega (arith, is, low)) in

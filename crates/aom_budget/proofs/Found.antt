@@ -10,8 +10,8 @@ use Rattle.aom_image.specs.declared.method.Method.{Method}
 use Rattle.aom_image.specs.declared.method.Role.TheVariants.{Cancel, Destruct}
 use Rattle.aom_image.specs.declared.method.Thing.TheVariants.{Object}
 use Rattle.aom_roles.specs.Tables.{at}
-use Rattle.aom_typings.specs.Calls.{cancels, destructors}
-use Rattle.aom_budget.proofs.TypingsLemmas.{method_within}
+use Rattle.aom_static_bounds.specs.Calls.{cancels, destructors}
+use Rattle.aom_budget.proofs.StaticBoundsLemmas.{method_within}
 use Rattle.aom_budget.specs.Costing.{IsDestroyed}
 use Rattle.aom_budget.specs.Greatest.{IsCalled, IsCancelled, IsGone, is_body, most_at}
 use Rattle.aom_budget.specs.Pricing.{destruction_by}

@@ -2,16 +2,16 @@
 use Rattle.std.proofs.lemmas.Bool.Decides.{nat_tests}
 use Rattle.std.proofs.Common.{Bool, List, Some, [], ap₂, arith, inl, inr, length, refl, replicate, slice_set, suc, sym, true, zero, ℕ, ◌++◌, ◌<◌, ◌∷◌, ◌≡◌, ◌≤◌}
 use Rattle.std.specs.Prelude.{max}
-use Rattle.std.proofs.lemmas.Bool.Decides.{eqb_tells}
+use Rattle.std.proofs.lemmas.Bool.Decides.{eqb_reports}
 use Rattle.aom_image.specs.Image.{Image}
 use Rattle.aom_roles.specs.Tables.{at}
-use Rattle.aom_budget.proofs.ShapeLemmas.{at_set_here, at_set_other}
-use Rattle.aom_typings.specs.Calls.{Among, bodies, each_below, each_of}
-use Rattle.aom_typings.specs.Layers.{MayRun}
-use Rattle.aom_typings.specs.Most.{most_below, most_of, most_run}
-use Rattle.aom_budget.proofs.TypingsLemmas.{among_either}
+use Rattle.aom_budget.proofs.AbstractStateLemmas.{at_set_here, at_set_other}
+use Rattle.aom_static_bounds.specs.Calls.{Among, bodies, each_below, each_of}
+use Rattle.aom_static_bounds.specs.Layers.{MayRun}
+use Rattle.aom_static_bounds.specs.Most.{most_below, most_of, most_run}
+use Rattle.aom_budget.proofs.StaticBoundsLemmas.{among_either}
 use Rattle.aom_budget.specs.Greatest.{most_at}
-use Rattle.aom_budget.proofs.Keeping.{at_noughts}
+use Rattle.aom_budget.proofs.Keeping.{at_zeros_only}
 
 -- ---- of lists
 
@@ -19,9 +19,9 @@ pub most_append : (ns xs ys : List ℕ) → most_at ns (xs ++ ys) ≡ max (most_
 most_append ns [] ys = omega arith
 most_append ns (x ∷ xs) ys = let rest = most_append ns xs ys in omega (arith, rest)
 
-pub most_of_noughts : (n : ℕ) (xs : List ℕ) → most_at (replicate n 0) xs ≡ 0
-most_of_noughts n [] = refl
-most_of_noughts n (x ∷ xs) = let here = at_noughts n x in let rest = most_of_noughts n xs in omega (arith, here, rest)
+pub most_of_zeros_only : (n : ℕ) (xs : List ℕ) → most_at (replicate n 0) xs ≡ 0
+most_of_zeros_only n [] = refl
+most_of_zeros_only n (x ∷ xs) = let here = at_zeros_only n x in let rest = most_of_zeros_only n xs in omega (arith, here, rest)
 
 -- ---- where one number is set
 
@@ -32,14 +32,14 @@ module _ (ns : List ℕ) (m v : ℕ) where
 
   module _ (within : m < length ns) (low : at 0 ns m ≤ v) where
     grows_at : (x : ℕ) → at 0 ns x ≤ at 0 (slice_set ns m v) x
-    grows_at x = grind (arith, nat_tests, eqb_tells x m, at_set_here 0 ns m v within, at_set_other 0 ns m x v)
+    grows_at x = grind (arith, nat_tests, eqb_reports x m, at_set_here 0 ns m v within, at_set_other 0 ns m x v)
 
     pub most_grows : (xs : List ℕ) → most_at ns xs ≤ most_at (slice_set ns m v) xs
     most_grows [] = omega arith
     most_grows (x ∷ xs) = let here = grows_at x in let rest = most_grows xs in omega (arith, here, rest)
 
     set_within : (x : ℕ) → at 0 (slice_set ns m v) x ≤ max (at 0 ns x) v
-    set_within x = grind (arith, nat_tests, eqb_tells x m, at_set_here 0 ns m v within, at_set_other 0 ns m x v)
+    set_within x = grind (arith, nat_tests, eqb_reports x m, at_set_here 0 ns m v within, at_set_other 0 ns m x v)
 
     most_within : (xs : List ℕ) → most_at (slice_set ns m v) xs ≤ max (most_at ns xs) v
     most_within [] = omega arith

@@ -3,22 +3,22 @@ use Rattle.std.proofs.lemmas.Bool.Decides.{nat_tests}
 use Rattle.std.proofs.Common.{◌≡◌, ◌==◌, ℕ, zero, suc, ◌<◌, ◌≤◌, cond, List, [], ◌∷◌, length, slice_index_or, slice_set, replicate, refl, arith, ◌∙◌}
 use Rattle.std.specs.Prelude.{max}
 use Rattle.std.proofs.lemmas.Bool.{eq-eqb, eqb-true}
-use Rattle.std.proofs.lemmas.Bool.Decides.{eqb_tells}
+use Rattle.std.proofs.lemmas.Bool.Decides.{eqb_reports}
 use Rattle.aom_roles.specs.Tables.{at}
-use Rattle.aom_budget.proofs.ShapeLemmas.{at_set_here, at_set_other, at_within}
+use Rattle.aom_budget.proofs.AbstractStateLemmas.{at_set_here, at_set_other, at_within}
 use Rattle.aom_budget.specs.Pricing.{AreKept}
 
-pub at_noughts : (n i : ℕ) → ◌≡◌ {A = ℕ} (at 0 (replicate n 0) i) 0
-at_noughts zero i = refl
-at_noughts (suc n) zero = refl
-at_noughts (suc n) (suc i) = at_noughts n i
+pub at_zeros_only : (n i : ℕ) → ◌≡◌ {A = ℕ} (at 0 (replicate n 0) i) 0
+at_zeros_only zero i = refl
+at_zeros_only (suc n) zero = refl
+at_zeros_only (suc n) (suc i) = at_zeros_only n i
 
-pub noughts_kept : (n : ℕ) → AreKept (replicate n 0)
-noughts_kept n = record { each = λ i. let none = at_noughts n i in omega (arith, none) }
+pub zeros_only_kept : (n : ℕ) → AreKept (replicate n 0)
+zeros_only_kept n = record { each = λ i. let none = at_zeros_only n i in omega (arith, none) }
 
 pub set_kept : (sums : List ℕ) (i v : ℕ) → i < length sums → v ≤ 4294967296 → AreKept sums → AreKept (slice_set sums i v)
 set_kept sums i v within low h = record {
-  each = grind (arith, nat_tests, eqb_tells, at_set_here 0 sums i v within, at_set_other 0 sums i);
+  each = grind (arith, nat_tests, eqb_reports, at_set_here 0 sums i v within, at_set_other 0 sums i);
 }
 
 -- within a list it does not matter what lies past its end

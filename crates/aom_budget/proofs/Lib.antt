@@ -9,7 +9,7 @@ mod Destroyed
 mod Found
 mod Mentioned
 mod Most
-mod Filling
+mod FieldState
 mod Limits
 mod Examples
 mod Quiet
@@ -22,12 +22,12 @@ mod Starting
 mod Priced
 mod Budgeting
 pub mod BudgetLemmas
-pub use Rattle.aom_classes.proofs.ClassesLemmas
+pub use Rattle.aom_link_conditions.proofs.LinkConditionsLemmas
 pub use Rattle.aom_image.proofs.ImageLemmas
 pub use Rattle.aom_instructions.proofs.InstructionsLemmas
-pub use Rattle.aom_linked.proofs.LinkedLemmas
+pub use Rattle.aom_linker.proofs.LinkerLemmas
 pub use Rattle.aom_roles.proofs.RolesLemmas
-pub use Rattle.aom_rules.proofs.RulesLemmas
-pub use Rattle.aom_shape.proofs.ShapeLemmas
-pub use Rattle.aom_typings.proofs.TypingsLemmas
+pub use Rattle.aom_typing_rules.proofs.TypingRulesLemmas
+pub use Rattle.aom_abstract_state.proofs.AbstractStateLemmas
+pub use Rattle.aom_static_bounds.proofs.StaticBoundsLemmas
 pub use Rattle.aom_verify.proofs.VerifyLemmas

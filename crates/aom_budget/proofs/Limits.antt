@@ -2,32 +2,32 @@
 use Rattle.std.proofs.Common.{◌≡◌, ℕ, zero, suc, true, false, ◌<◌, ◌≤◌, ◌+◌, List, [], ◌∷◌, length, IsSome, inl, inr, ap, arith}
 use Rattle.std.specs.Prelude.{nat_le}
 use Rattle.std.specs.List.{list_all}
-use Rattle.std.proofs.lemmas.Bool.Decides.{leb_tells}
+use Rattle.std.proofs.lemmas.Bool.Decides.{leb_reports}
 use Rattle.aom_image.specs.Image.{Image}
 use Rattle.aom_image.specs.Views.{method_at}
-use Rattle.aom_classes.specs.Linked.{IsLinked}
-use Rattle.aom_budget.proofs.ClassesLemmas.{both}
-use Rattle.aom_shape.specs.Shape.{Shape}
+use Rattle.aom_link_conditions.specs.Linked.{IsLinked}
+use Rattle.aom_budget.proofs.LinkConditionsLemmas.{both}
+use Rattle.aom_abstract_state.specs.AbstractState.{AbstractState}
 use Rattle.aom_roles.specs.Tables.{at}
-use Rattle.aom_rules.specs.Typing.{Typing}
-use Rattle.aom_typings.specs.Strongest.{IsStrongest}
-use Rattle.aom_typings.specs.Calls.{MayCall}
-use Rattle.aom_typings.specs.Depths.{Frames, AreDepths, IsTooDeep}
-use Rattle.aom_typings.specs.Depths.Frames.{alone, calling}
-use Rattle.aom_typings.specs.Heights.{StandsAt, StandsWith, Heights, AreHeights, IsTooHigh}
-use Rattle.aom_typings.specs.Heights.Heights.{own, under}
-use Rattle.aom_budget.proofs.TypingsLemmas.{caller, method_within, standing, within_method}
-use Rattle.aom_budget.specs.Extents.{IsFilled, KeepsTo, Exceeds}
-use Rattle.aom_budget.proofs.Filling.{entered_is_called}
+use Rattle.aom_typing_rules.specs.Typing.{Typing}
+use Rattle.aom_static_bounds.specs.Strongest.{IsStrongest}
+use Rattle.aom_static_bounds.specs.Calls.{MayCall}
+use Rattle.aom_static_bounds.specs.Depths.{Frames, AreDepths, IsTooDeep}
+use Rattle.aom_static_bounds.specs.Depths.Frames.{alone, calling}
+use Rattle.aom_static_bounds.specs.Heights.{StandsAt, StandsWith, Heights, AreHeights, IsTooHigh}
+use Rattle.aom_static_bounds.specs.Heights.Heights.{own, under}
+use Rattle.aom_budget.proofs.StaticBoundsLemmas.{caller, method_within, standing, within_method}
+use Rattle.aom_budget.specs.StackDepths.{IsFilled, KeepsTo, Exceeds}
+use Rattle.aom_budget.proofs.FieldState.{entered_is_called}
 use Rattle.aom_budget.proofs.Mentioned.{called_lower}
-use Rattle.aom_budget.proofs.Most.{no_more, is_one, one_exceeds}
+use Rattle.aom_budget.proofs.Most.{implied, is_one, one_exceeds}
 
 -- ---- what is called or stands is a method
 
 called : (p : Image) (m k : ℕ) → IsLinked p → MayCall p m k → IsSome (method_at p k)
 called p m k linked call = within_method p k (omega (arith, called_lower p m k linked call, method_within p m (caller p m k call)))
 
-stander : (p : Image) (m place : ℕ) (sh : Shape) → StandsAt p m place sh → IsSome (method_at p m)
+stander : (p : Image) (m place : ℕ) (sh : AbstractState) → StandsAt p m place sh → IsSome (method_at p m)
 stander p m place sh h = let applies = h.strongest.typed.each place sh h.there in standing p m place applies.instr applies.stands
 
 -- a method begins with no entries
@@ -38,7 +38,7 @@ begins p t m h some =
       place = 0;
       shape = entry.next;
       stands = record { states = at [] t m; strongest = h.each m some; there = entry.there };
-      count = ap (λ es. length es) entry.no_more.entries;
+      count = ap (λ es. length es) entry.implied.entries;
     }
 
 -- ---- within the limits
@@ -46,7 +46,7 @@ begins p t m h some =
 module _ (p : Image) (cap : ℕ) (of : ℕ → ℕ → Type 0) (table : List ℕ) (filled : IsFilled p cap of (length p.methods) table) (most : ℕ)
     (keeps : KeepsTo most table) (few : most < cap) where
   most_of : (m : ℕ) → IsSome (method_at p m) → (k : ℕ) → of m k → k ≤ at 0 table m
-  most_of m some = no_more cap (of m) (at 0 table m) (filled.each m (method_within p m some)) (omega (arith, keeps.each m, few))
+  most_of m some = implied cap (of m) (at 0 table m) (filled.each m (method_within p m some)) (omega (arith, keeps.each m, few))
 
   one_of : (m k : ℕ) → IsSome (method_at p m) → of m k → of m (at 0 table m)
   one_of m k some h = is_one cap (of m) (at 0 table m) k (filled.each m (method_within p m some)) (omega (arith, keeps.each m, few)) h
@@ -105,7 +105,7 @@ keeps most table h = record { each = go table h }
 
 pub exceeds : (most : ℕ) (table : List ℕ) → list_all (λ n. nat_le n most) table ≡ false → Exceeds most table
 exceeds most [] h = absurd cc
-exceeds most (x ∷ xs) h = elim (leb_tells x most) [
+exceeds most (x ∷ xs) h = elim (leb_reports x most) [
   | inl w ↦ let rest = exceeds most xs (rw w.0 at h) in record { method = suc rest.method; within = omega (arith, rest.within); more = rest.more }
   | inr w ↦ record { method = zero; within = omega arith; more = w.1 }
 ]

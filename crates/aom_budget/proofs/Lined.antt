@@ -17,13 +17,13 @@ use Rattle.aom_image.specs.declared.method.Thing.TheVariants.{Message, Object}
 use Rattle.aom_budget.proofs.RolesLemmas.{fewer, none_below, parent_below}
 use Rattle.aom_roles.specs.Classes.{kind_at, kind_in, sessions_at, sessions_in}
 use Rattle.aom_roles.specs.Families.{descends, descends_in, parent_of}
-use Rattle.aom_budget.proofs.ClassesLemmas.{child_there, keeper_own, none_there, own_found, role_inherits}
-use Rattle.aom_budget.proofs.LinkedLemmas.{no_player}
-use Rattle.aom_classes.specs.Roles.{own_role, role_by, role_of}
-use Rattle.aom_typings.specs.Calls.{Among, cancels, destructors, lines, lines_of, listed}
-use Rattle.aom_typings.specs.Layers.{Destructs, InLine, Runs}
-use Rattle.aom_budget.proofs.TypingsLemmas.{among_either, below_from, gone_with, line_step}
-use Rattle.aom_typings.specs.Most.{line, line_from}
+use Rattle.aom_budget.proofs.LinkConditionsLemmas.{child_there, keeper_own, none_there, own_found, role_inherits}
+use Rattle.aom_budget.proofs.LinkerLemmas.{no_player}
+use Rattle.aom_link_conditions.specs.Roles.{own_role, role_by, role_of}
+use Rattle.aom_static_bounds.specs.Calls.{Among, cancels, destructors, lines, lines_of, listed}
+use Rattle.aom_static_bounds.specs.Layers.{Destructs, InLine, Runs}
+use Rattle.aom_budget.proofs.StaticBoundsLemmas.{among_either, below_from, gone_with, line_step}
+use Rattle.aom_static_bounds.specs.Most.{line, line_from}
 use Rattle.aom_budget.specs.Greatest.{most_at}
 use Rattle.aom_budget.specs.Pricing.{kept, price_by}
 use Rattle.aom_budget.proofs.Greatest.{most_append}

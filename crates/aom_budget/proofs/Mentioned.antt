@@ -21,45 +21,45 @@ use Rattle.aom_image.specs.declared.method.Role.TheVariants as roles
 use Rattle.aom_image.specs.declared.method.Thing.{Thing}
 use Rattle.aom_image.specs.declared.method.Thing.TheVariants.{Object, Message}
 use Rattle.aom_roles.specs.Roles.{role_number}
-use Rattle.aom_classes.specs.Calls.{AllBelow, CallsBelow, EndsBelow, MayCancel, Mentions, MentionsThing, MentionsArgument}
-use Rattle.aom_classes.specs.Calls.{MentionsResult, MentionsFields, MentionsRoot, RunsBelow, CallsOrdered}
-use Rattle.aom_classes.specs.Linked.{IsLinked}
-use Rattle.aom_classes.specs.Overriding.{over_in}
-use Rattle.aom_classes.specs.Roles.{own_role, plays, same_role}
-use Rattle.aom_budget.proofs.ClassesLemmas.{all_there, at_place, both, cancels_own, found, join, of_method}
+use Rattle.aom_link_conditions.specs.Calls.{AllBelow, CallsBelow, EndsBelow, MayCancel, Mentions, MentionsThing, MentionsArgument}
+use Rattle.aom_link_conditions.specs.Calls.{MentionsResult, MentionsFields, MentionsRoot, RunsBelow, CallsOrdered}
+use Rattle.aom_link_conditions.specs.Linked.{IsLinked}
+use Rattle.aom_link_conditions.specs.Overriding.{over_in}
+use Rattle.aom_link_conditions.specs.Roles.{own_role, fills_role, same_role}
+use Rattle.aom_budget.proofs.LinkConditionsLemmas.{all_there, at_place, both, cancels_own, found, join, of_method}
 use Rattle.aom_budget.proofs.RolesLemmas.{through}
-use Rattle.aom_rules.specs.Calls.{brought, caught, worked_on, while_called}
-use Rattle.aom_rules.specs.Requests.{resting}
-use Rattle.aom_budget.proofs.ShapeLemmas.{at-put_at, has_itself}
-use Rattle.aom_shape.specs.Entries.{readied_entry, readied_at, without_top, with_entry}
-use Rattle.aom_shape.specs.Arguments.{after_of, argument_moved, arguments_moved, argument_kind, entry_shape}
-use Rattle.aom_rules.specs.Cleanup.{entry_of, top_kind}
-use Rattle.aom_shape.specs.Kinds.{entry_kind, register, field, set_register, set_field, filled, readied}
-use Rattle.aom_shape.specs.Needs.{Flow}
-use Rattle.aom_rules.specs.Objects.{flow_jump_null, flow_jump_empty}
-use Rattle.aom_shape.specs.Order.{Weaker, SaysNoMore}
-use Rattle.aom_shape.specs.Order.WeakerFilling.{alike_filling}
-use Rattle.aom_shape.specs.Order.Weaker.{alike, unset_word, unset_null, maybe_null, maybe_own}
-use Rattle.aom_rules.specs.Rules.{flows, ways_of}
-use Rattle.aom_shape.specs.Shape.{Shape}
-use Rattle.aom_rules.specs.Ways.{As_before, Branches, Branches_in, Branches_on_empty, Branches_on_null, Called, Cancelled}
-use Rattle.aom_rules.specs.Ways.{Caught, Dropped, Ends, Filled, Goes_back, Handed, Goes_on, Goes_to, Holding, Left_in, Moved}
-use Rattle.aom_rules.specs.Ways.{News, Popped, Pushed, Pushed_operation, Taken, Taken_message, Ways, after, flowing}
+use Rattle.aom_typing_rules.specs.Calls.{brought, caught, worked_on, while_called}
+use Rattle.aom_typing_rules.specs.Requests.{resting}
+use Rattle.aom_budget.proofs.AbstractStateLemmas.{at-set_extending, has_itself}
+use Rattle.aom_abstract_state.specs.Entries.{made_ready_entry, made_ready_at, without_top, with_entry}
+use Rattle.aom_abstract_state.specs.Arguments.{after_of, argument_moved, arguments_moved, argument_kind, entry_shape}
+use Rattle.aom_typing_rules.specs.Cleanup.{entry_of, top_kind}
+use Rattle.aom_abstract_state.specs.Kinds.{entry_kind, register, field, set_register, set_field, filled, made_ready}
+use Rattle.aom_abstract_state.specs.Needs.{Flow}
+use Rattle.aom_typing_rules.specs.Objects.{flow_jump_null, flow_jump_empty}
+use Rattle.aom_abstract_state.specs.Order.{Weaker, IsImpliedBy}
+use Rattle.aom_abstract_state.specs.Order.WeakerFilling.{alike_filling}
+use Rattle.aom_abstract_state.specs.Order.Weaker.{alike, unset_word, unset_null, maybe_null, maybe_own}
+use Rattle.aom_typing_rules.specs.Rules.{flows, ways_of}
+use Rattle.aom_abstract_state.specs.AbstractState.{AbstractState}
+use Rattle.aom_typing_rules.specs.Ways.{As_before, Branches, Branches_in, Branches_on_empty, Branches_on_null, Called, Cancelled}
+use Rattle.aom_typing_rules.specs.Ways.{Caught, Dropped, Ends, Filled, Goes_back, Handed, Goes_on, Goes_to, Holding, Left_in, Moved}
+use Rattle.aom_typing_rules.specs.Ways.{News, Popped, Pushed, Pushed_operation, Taken, Taken_message, Ways, after, flowing}
 use Rattle.aom_roles.specs.Tables.{at}
 use Rattle.aom_roles.specs.Things.{Holder, Member, root_thing, field_thing, holder_by, holder_of}
-use Rattle.aom_shape.specs.declared.kind.CleanupEntry.{CleanupEntry}
-use Rattle.aom_shape.specs.declared.kind.Age.TheVariants.{Ready}
-use Rattle.aom_shape.specs.declared.kind.CleanupEntry.TheVariants.{Operation}
-use Rattle.aom_shape.specs.declared.kind.Filling.{Filling}
-use Rattle.aom_shape.specs.declared.kind.Filling.TheVariants.{Empty, Full}
-use Rattle.aom_shape.specs.declared.kind.Kind.{Kind}
-use Rattle.aom_shape.specs.declared.kind.Kind.TheVariants.{Unset, Word, Null, Own, Maybe}
-use Rattle.aom_budget.proofs.RulesLemmas.{by_states, flows_more, needs_more}
-use Rattle.aom_typings.specs.Shapes.{Shapes, Meets, AllMet, Applies, IsMethodTyped}
-use Rattle.aom_typings.specs.Strongest.{IsMethodStrongest}
-use Rattle.aom_typings.specs.Charges.{Charge, No_charge, A_call, An_operation, A_destruction, A_cancel, charge_of}
-use Rattle.aom_typings.specs.Calls.{Among, MayCall, bodies, called_for, callees, cancels, destructors, object_class, thing_class}
-use Rattle.aom_typings.specs.Layers.{Runs}
+use Rattle.aom_abstract_state.specs.declared.kind.CleanupEntry.{CleanupEntry}
+use Rattle.aom_abstract_state.specs.declared.kind.InitState.TheVariants.{Ready}
+use Rattle.aom_abstract_state.specs.declared.kind.CleanupEntry.TheVariants.{Operation}
+use Rattle.aom_abstract_state.specs.declared.kind.FieldState.{FieldState}
+use Rattle.aom_abstract_state.specs.declared.kind.FieldState.TheVariants.{Empty, Full}
+use Rattle.aom_abstract_state.specs.declared.kind.Kind.{Kind}
+use Rattle.aom_abstract_state.specs.declared.kind.Kind.TheVariants.{Unset, Word, Null, Own, Maybe}
+use Rattle.aom_budget.proofs.TypingRulesLemmas.{by_states, flows_more, needs_more}
+use Rattle.aom_static_bounds.specs.Shapes.{Shapes, Meets, AllMet, Applies, IsMethodTyped}
+use Rattle.aom_static_bounds.specs.Strongest.{IsMethodStrongest}
+use Rattle.aom_static_bounds.specs.Charges.{Charge, No_charge, A_call, An_operation, A_destruction, A_cancel, charge_of}
+use Rattle.aom_static_bounds.specs.Calls.{Among, MayCall, bodies, called_for, callees, cancels, destructors, object_class, thing_class}
+use Rattle.aom_static_bounds.specs.Layers.{Runs}
 use Rattle.aom_budget.proofs.Greatest.{run_from}
 use Rattle.aom_budget.proofs.Lined.{cancels_from, destructors_from}
 use Rattle.aom_budget.proofs.Overridden.{overrider_is}
@@ -77,7 +77,7 @@ all_below m (x ∷ xs) each = join (nat_lt x m) (list_all (λ k. nat_lt k m) xs)
 -- the method of a role in a class, where all in that role there are lower
 role_below : (p : Image) (m d k : ℕ) (r : Role) → AllBelow p.methods m d r → own_role p d r ≡ Some k → k < m
 unfolding own_role
-role_below p m d k r all own = let w = found (plays d r) p.methods k own in (subst (λ o. IfSome o (λ e. IsTrue (plays d r e) → k < m)) w.1 (all k)) w.2
+role_below p m d k r all own = let w = found (fills_role d r) p.methods k own in (subst (λ o. IfSome o (λ e. IsTrue (fills_role d r e) → k < m)) w.1 (all k)) w.2
 
 ends_below : (p : Image) (m y k : ℕ) → EndsBelow p m y → Runs p (Object y) k → k < m
 ends_below p m y k ends x = grind (arith, nat_tests, role_below p m)
@@ -96,7 +96,7 @@ is_low p m k = runs_below p m (object_class k)
 abbrev entry_low : Image → ℕ → CleanupEntry → Bool
 entry_low p m e = is_low p m (entry_kind e)
 
-record IsLow (p : Image) (m : ℕ) (sh : Shape) : Type 0 where
+record IsLow (p : Image) (m : ℕ) (sh : AbstractState) : Type 0 where
   registers : (i : ℕ) → IsTrue (is_low p m (register sh i))
   entries : IsTrue (list_all (entry_low p m) sh.entries)
 
@@ -122,9 +122,9 @@ module _ (p : Image) (m : ℕ) where
   unfolding role_in class_in
   holder_low d e h = rw e (class_low d.class d.role h.root h.fields)
 
-  set_low : (sh : Shape) (i : ℕ) (k : Kind) → IsLow p m sh → IsTrue (is_low p m k) → IsLow p m (set_register sh i k)
+  set_low : (sh : AbstractState) (i : ℕ) (k : Kind) → IsLow p m sh → IsTrue (is_low p m k) → IsLow p m (set_register sh i k)
   set_low sh i k h low = record {
-    registers = λ j. rw (at-put_at Unset sh.registers i j k) (either j (i == j));
+    registers = λ j. rw (at-set_extending Unset sh.registers i j k) (either j (i == j));
     entries = h.entries;
   }
     where
@@ -132,13 +132,13 @@ module _ (p : Image) (m : ℕ) where
       either j x = grind arith
 
   -- what a field has is no part of it
-  field_low : (sh : Shape) (f : ℕ) (x : Filling) → IsLow p m sh → IsLow p m (set_field sh f x)
+  field_low : (sh : AbstractState) (f : ℕ) (x : FieldState) → IsLow p m sh → IsLow p m (set_field sh f x)
   field_low sh f x h = record { registers = h.registers; entries = h.entries }
 
-  filled_low : (o : Option Thing) (x : Filling) → IfSome o (λ t. IsTrue (runs_below p m (thing_class t))) → IsTrue (is_low p m (filled o x))
+  filled_low : (o : Option Thing) (x : FieldState) → IfSome o (λ t. IsTrue (runs_below p m (thing_class t))) → IsTrue (is_low p m (filled o x))
   filled_low x y h = grind arith
 
-  with_low : (e : CleanupEntry) (sh : Shape) → IsTrue (entry_low p m e) → IsLow p m sh → IsLow p m (with_entry e sh)
+  with_low : (e : CleanupEntry) (sh : AbstractState) → IsTrue (entry_low p m e) → IsLow p m sh → IsLow p m (with_entry e sh)
   with_low e sh low h = record { registers = h.registers; entries = join (entry_low p m e) (list_all (entry_low p m) sh.entries) low h.entries }
 
   pushed_low : (k : Kind) → IsTrue (is_low p m k) → IsTrue (entry_low p m (entry_of k))
@@ -152,69 +152,69 @@ module _ (p : Image) (m : ℕ) where
   rest_low [] h = refl
   rest_low (e ∷ es) h = (both (entry_low p m e) (list_all (entry_low p m) es) h).1
 
-  without_low : (sh : Shape) → IsLow p m sh → IsLow p m (record sh { entries = without_top sh.entries })
+  without_low : (sh : AbstractState) → IsLow p m sh → IsLow p m (record sh { entries = without_top sh.entries })
   without_low sh h = record { registers = h.registers; entries = rest_low sh.entries h.entries }
 
   -- ---- calls
 
-  readied_low : (k : Kind) → IsTrue (is_low p m k) → IsTrue (is_low p m (readied k))
-  readied_low x h = grind arith
+  made_ready_low : (k : Kind) → IsTrue (is_low p m k) → IsTrue (is_low p m (made_ready k))
+  made_ready_low x h = grind arith
 
-  readied_entry_low : (e : CleanupEntry) → IsTrue (entry_low p m e) → IsTrue (entry_low p m (readied_entry e))
-  readied_entry_low x h = grind arith
+  made_ready_entry_low : (e : CleanupEntry) → IsTrue (entry_low p m e) → IsTrue (entry_low p m (made_ready_entry e))
+  made_ready_entry_low x h = grind arith
 
-  readied_at_low : (es : List CleanupEntry) (k : ℕ) → IsTrue (list_all (entry_low p m) es) → IsTrue (list_all (entry_low p m) (readied_at es k))
-  readied_at_low [] k h = refl
-  readied_at_low (e ∷ es) zero h = let w = both (entry_low p m e) (list_all (entry_low p m) es) h in
-      join (entry_low p m (readied_entry e)) (list_all (entry_low p m) es) (readied_entry_low e w.0) w.1
-  readied_at_low (e ∷ es) (suc k) h = grind (arith, nat_tests, both, join, readied_at_low es k)
+  made_ready_at_low : (es : List CleanupEntry) (k : ℕ) → IsTrue (list_all (entry_low p m) es) → IsTrue (list_all (entry_low p m) (made_ready_at es k))
+  made_ready_at_low [] k h = refl
+  made_ready_at_low (e ∷ es) zero h = let w = both (entry_low p m e) (list_all (entry_low p m) es) h in
+      join (entry_low p m (made_ready_entry e)) (list_all (entry_low p m) es) (made_ready_entry_low e w.0) w.1
+  made_ready_at_low (e ∷ es) (suc k) h = grind (arith, nat_tests, both, join, made_ready_at_low es k)
 
-  argument_low : (x : Argument) (r : ℕ) (sh : Shape) → IsLow p m sh → IsLow p m (argument_moved x r sh)
+  argument_low : (x : Argument) (r : ℕ) (sh : AbstractState) → IsLow p m sh → IsLow p m (argument_moved x r sh)
   argument_low x r sh h = grind (arith, nat_tests, set_low sh r Null h)
 
-  arguments_low : (xs : List Argument) (first : ℕ) (sh : Shape) → IsLow p m sh → IsLow p m (arguments_moved xs first sh)
+  arguments_low : (xs : List Argument) (first : ℕ) (sh : AbstractState) → IsLow p m sh → IsLow p m (arguments_moved xs first sh)
   arguments_low [] first sh h = h
   arguments_low (x ∷ xs) first sh h = arguments_low xs (suc first) (argument_moved x first sh) (argument_low x first sh h)
 
-  worked_low : (class : Option ℕ) (ended : ℕ) (sh : Shape) → IsLow p m sh → IsLow p m (worked_on class ended sh)
+  worked_low : (class : Option ℕ) (ended : ℕ) (sh : AbstractState) → IsLow p m sh → IsLow p m (worked_on class ended sh)
   worked_low None ended sh h = h
   worked_low (Some c) ended sh h = record { registers = h.registers; entries = h.entries }
 
-  called_low : (target : Target) (class : Option ℕ) (ended : ℕ) (sh : Shape) → IsLow p m sh → IsLow p m (while_called target class ended sh)
+  called_low : (target : Target) (class : Option ℕ) (ended : ℕ) (sh : AbstractState) → IsLow p m sh → IsLow p m (while_called target class ended sh)
   called_low This class ended sh h = worked_low class ended sh h
-  called_low (Register r) class ended sh h = set_low sh r (readied (register sh r)) h (readied_low (register sh r) (h.registers r))
+  called_low (Register r) class ended sh h = set_low sh r (made_ready (register sh r)) h (made_ready_low (register sh r) (h.registers r))
   called_low (Field f) class ended sh h = h
-  called_low (On_entry k) class ended sh h = record { registers = h.registers; entries = readied_at_low sh.entries k h.entries }
+  called_low (On_entry k) class ended sh h = record { registers = h.registers; entries = made_ready_at_low sh.entries k h.entries }
 
-  brought_low : (g : Gives) (c : ℕ) (sh : Shape) → MentionsResult p m g → IsLow p m sh → IsLow p m (brought g c sh)
+  brought_low : (g : Gives) (c : ℕ) (sh : AbstractState) → MentionsResult p m g → IsLow p m sh → IsLow p m (brought g c sh)
   brought_low Nothing c sh g h = h
   brought_low A_word c sh g h = set_low sh c Word h refl
   brought_low (An_own t) c sh g h = set_low sh c _ h (thing_mentioned p m t g)
   brought_low (A_maybe t) c sh g h = set_low sh c _ h (thing_mentioned p m t g)
   brought_low (Left x) c sh g h = with_low _ sh (mentioned p m x g) h
 
-  caught_low : (g : Gives) (c : ℕ) (sh : Shape) → MentionsResult p m g → IsLow p m sh → IsLow p m (caught g c sh)
+  caught_low : (g : Gives) (c : ℕ) (sh : AbstractState) → MentionsResult p m g → IsLow p m sh → IsLow p m (caught g c sh)
   caught_low Nothing c sh g h = set_low sh (suc c) Word h refl
   caught_low A_word c sh g h = set_low (set_register sh c Word) (suc c) Word (set_low sh c Word h refl) refl
   caught_low (An_own t) c sh g h = set_low _ (suc c) Word (set_low sh c _ h (thing_mentioned p m t g)) refl
   caught_low (A_maybe t) c sh g h = set_low _ (suc c) Word (set_low sh c _ h (thing_mentioned p m t g)) refl
   caught_low (Left x) c sh g h = set_low sh (suc c) Word h refl
 
-  lasting_low : (target : Target) (called first ended : ℕ) (sh : Shape) →
+  lasting_low : (target : Target) (called first ended : ℕ) (sh : AbstractState) →
       IsLow p m sh → IsLow p m (while_called target (method_class p called) ended (arguments_moved (arguments_of p called) first sh))
   lasting_low target called first ended sh h =
       called_low target (method_class p called) ended (arguments_moved (arguments_of p called) first sh) (arguments_low (arguments_of p called) first sh h)
 
   -- ---- flows
 
-  null_low : (pc : ℕ) (sh : Shape) (k : Kind) (r to : ℕ) → IsLow p m sh → IsTrue (is_low p m k) → AllLow p m (flow_jump_null p m pc sh k r to)
+  null_low : (pc : ℕ) (sh : AbstractState) (k : Kind) (r to : ℕ) → IsLow p m sh → IsTrue (is_low p m k) → AllLow p m (flow_jump_null p m pc sh k r to)
   null_low pc sh Unset r to h low = tt
   null_low pc sh Word r to h low = tt
   null_low pc sh Null r to h low = (h, tt)
   null_low pc sh (Own t a) r to h low = (h, tt)
   null_low pc sh (Maybe t a) r to h low = (set_low sh r (Own t a) h low, (set_low sh r Null h refl, tt))
 
-  empty_low : (pc : ℕ) (sh : Shape) (x : Filling) (f to : ℕ) → IsLow p m sh → AllLow p m (flow_jump_empty p m pc sh x f to)
+  empty_low : (pc : ℕ) (sh : AbstractState) (x : FieldState) (f to : ℕ) → IsLow p m sh → AllLow p m (flow_jump_empty p m pc sh x f to)
   empty_low pc sh x f to h = grind (arith, nat_tests, field_low sh f Full h, field_low sh f Empty h)
 
   -- the kind that a register comes to have names such a class, and so does what a call gives
@@ -229,7 +229,7 @@ module _ (p : Image) (m : ℕ) where
   names_low own x r = grind (arith, nat_tests, mentioned p m)
 
   module _ (own : Option ℕ) (fields : FieldsLow p m (holder_of p m)) where
-    after_low : (pc : ℕ) (sh : Shape) (news : News) → NamesLow (Goes_on news) → IsLow p m sh → IsLow p m (after p m pc sh news)
+    after_low : (pc : ℕ) (sh : AbstractState) (news : News) → NamesLow (Goes_on news) → IsLow p m sh → IsLow p m (after p m pc sh news)
     unfolding NamesLow
     after_low pc sh As_before low h = h
     after_low pc sh (Holding a kind) low h = set_low sh a kind h low
@@ -250,7 +250,7 @@ module _ (p : Image) (m : ℕ) where
     after_low pc sh (Handed a) low h = let held = set_low sh a (Maybe Message Ready) h refl in record { registers = held.registers; entries = h.entries }
     after_low pc sh (Taken_message a) low h = let held = set_low sh a (Own Message Ready) h refl in record { registers = held.registers; entries = h.entries }
 
-    ways_low : (pc : ℕ) (sh : Shape) (ways : Ways) → NamesLow ways → IsLow p m sh → AllLow p m (flowing p m pc sh ways)
+    ways_low : (pc : ℕ) (sh : AbstractState) (ways : Ways) → NamesLow ways → IsLow p m sh → AllLow p m (flowing p m pc sh ways)
     ways_low pc sh Ends low h = tt
     ways_low pc sh (Goes_on news) low h = (after_low pc sh news low h, tt)
     ways_low pc sh (Goes_to to) low h = (h, tt)
@@ -262,7 +262,7 @@ module _ (p : Image) (m : ℕ) where
         let same : (s : ℕ) → IsLow p m (record sh { states = s }) = λ s. record { registers = h.registers; entries = h.entries } in
         by_states (λ fs. AllLow p m fs) sh (suc pc) there here to tt (λ s. (same s, tt)) (λ t. (same t, tt)) (λ s t. (same s, (same t, tt)))
 
-    flows_low : (pc : ℕ) (sh : Shape) (i : Instr) → RunsBelow p m own i → IsLow p m sh → AllLow p m (flows p m pc sh i)
+    flows_low : (pc : ℕ) (sh : AbstractState) (i : Instr) → RunsBelow p m own i → IsLow p m sh → AllLow p m (flows p m pc sh i)
     flows_low pc sh i r h = ways_low pc sh (ways_of p i) (names_low own i r) h
 
   arguments_kinds : (xs : List Argument) (i : ℕ) → All (MentionsArgument p m) xs → IsTrue (is_low p m (at Unset (map argument_kind xs) i))
@@ -292,14 +292,14 @@ owned_low p m Null = true
 owned_low p m (Own t a) = runs_below p m (thing_class t)
 owned_low p m (Maybe t a) = true
 
-abbrev raised_shape : Image → ℕ → Shape → Shape
+abbrev raised_shape : Image → ℕ → AbstractState → AbstractState
 raised_shape p m sh = record sh { registers = map (raised p m) sh.registers }
 
 -- a state stays where nothing is owned of such a class
-abbrev stays : Image → ℕ → Shape → Bool
+abbrev stays : Image → ℕ → AbstractState → Bool
 stays p m sh = list_all (owned_low p m) sh.registers && list_all (entry_low p m) sh.entries
 
-abbrev kept : Image → ℕ → Option Shape → Option Shape
+abbrev kept : Image → ℕ → Option AbstractState → Option AbstractState
 kept p m None = None
 kept p m (Some sh) = cond (stays p m sh) (Some (raised_shape p m sh)) None
 
@@ -329,13 +329,13 @@ module _ (p : Image) (m : ℕ) where
       go true = alike
       go false = maybe_null
 
-  shape_raised : (sh : Shape) → SaysNoMore sh (raised_shape p m sh)
+  shape_raised : (sh : AbstractState) → IsImpliedBy sh (raised_shape p m sh)
   shape_raised sh = record {
     registers = λ i. rw (at_raised sh.registers i) (kind_raised (register sh i));
     fields = λ f. alike_filling;
     entries = refl;
     states = has_itself sh.states;
-    delivery = refl;
+    message_state = refl;
   }
 
   raised_low : (k : Kind) → IsTrue (owned_low p m k) → IsTrue (is_low p m (raised p m k))
@@ -350,7 +350,7 @@ module _ (p : Image) (m : ℕ) where
   owned_all [] h = refl
   owned_all (k ∷ ks) h = join (owned_low p m k) (list_all (owned_low p m) ks) (h zero) (owned_all ks (λ i. h (suc i)))
 
-  shape_low : (sh : Shape) → IsTrue (stays p m sh) → IsLow p m (raised_shape p m sh)
+  shape_low : (sh : AbstractState) → IsTrue (stays p m sh) → IsLow p m (raised_shape p m sh)
   shape_low sh h =
       let w = both (list_all (owned_low p m) sh.registers) (list_all (entry_low p m) sh.entries) h in
       record {
@@ -384,21 +384,21 @@ module _ (p : Image) (m : ℕ) where
       go false = alike
   weaker_raised x y (maybe_own {t = t} {a = age}) h = rw h maybe_own
 
-  meets_kept : (s : Shapes) (to : ℕ) (sh : Shape) → IsLow p m sh → Meets s to sh → Meets (all_kept p m s) to sh
+  meets_kept : (s : Shapes) (to : ℕ) (sh : AbstractState) → IsLow p m sh → Meets s to sh → Meets (all_kept p m s) to sh
   meets_kept s to sh low h =
-      let owned = owned_all h.next.registers (λ i. weaker_owned (register h.next i) (register sh i) (h.no_more.registers i) (low.registers i)) in
+      let owned = owned_all h.next.registers (λ i. weaker_owned (register h.next i) (register sh i) (h.implied.registers i) (low.registers i)) in
       let stay : IsTrue (stays p m h.next) =
-      join (list_all (owned_low p m) h.next.registers) (list_all (entry_low p m) h.next.entries) owned (rw h.no_more.entries low.entries) in
+      join (list_all (owned_low p m) h.next.registers) (list_all (entry_low p m) h.next.entries) owned (rw h.implied.entries low.entries) in
       let there : kept p m (Some h.next) ≡ Some (raised_shape p m h.next) = rw stay refl in
       record {
         next = raised_shape p m h.next;
         there = at_kept s to ∙ (ap (kept p m) h.there ∙ there);
-        no_more = record {
-          registers = λ i. rw (at_raised h.next.registers i) (weaker_raised (register h.next i) (register sh i) (h.no_more.registers i) (low.registers i));
-          fields = h.no_more.fields;
-          entries = h.no_more.entries;
-          states = h.no_more.states;
-          delivery = h.no_more.delivery;
+        implied = record {
+          registers = λ i. rw (at_raised h.next.registers i) (weaker_raised (register h.next i) (register sh i) (h.implied.registers i) (low.registers i));
+          fields = h.implied.fields;
+          entries = h.implied.entries;
+          states = h.implied.states;
+          message_state = h.implied.message_state;
         };
       }
 
@@ -407,7 +407,7 @@ module _ (p : Image) (m : ℕ) where
   all_meet_kept s (way ∷ ways) low h = (meets_kept s way.0 way.1 low.0 h.0, all_meet_kept s ways low.1 h.1)
 
   -- what is kept stood there
-  stood : (o : Option Shape) (x : Shape) → kept p m o ≡ Some x → (sh : Shape) × (o ≡ Some sh) × IsTrue (stays p m sh) × (x ≡ raised_shape p m sh)
+  stood : (o : Option AbstractState) (x : AbstractState) → kept p m o ≡ Some x → (sh : AbstractState) × (o ≡ Some sh) × IsTrue (stays p m sh) × (x ≡ raised_shape p m sh)
   stood o x e = grind (arith, nat_tests, some_given, true_given)
 
   ordered : IsLinked p → (d : Method) → method_at p m ≡ Some d → CallsOrdered p m d
@@ -422,7 +422,7 @@ module _ (p : Image) (m : ℕ) where
       let calls = ordered linked w.0 w.1 in
       (w.0, w.1, calls, all_there (RunsBelow p m w.0.class) w.0.code pc i calls.code w.2)
 
-  raised_applies : (s : Shapes) (pc : ℕ) (sh : Shape) → IsLinked p → IsMethodTyped p m s → at None s pc ≡ Some sh → IsTrue (stays p m sh) →
+  raised_applies : (s : Shapes) (pc : ℕ) (sh : AbstractState) → IsLinked p → IsMethodTyped p m s → at None s pc ≡ Some sh → IsTrue (stays p m sh) →
       Applies p m (all_kept p m s) pc (raised_shape p m sh)
   raised_applies s pc sh linked h there stay =
       let applies = h.each pc sh there in
@@ -449,14 +449,14 @@ module _ (p : Image) (m : ℕ) where
   was_low : (k : Kind) → IsTrue (owned_low p m k) → Weaker (raised p m k) k → IsTrue (is_low p m k)
   was_low x h w = grind arith
 
-  states_low : (s : Shapes) (pc : ℕ) (sh : Shape) → IsLinked p → IsMethodStrongest p m s → at None s pc ≡ Some sh → IsLow p m sh
+  states_low : (s : Shapes) (pc : ℕ) (sh : AbstractState) → IsLinked p → IsMethodStrongest p m s → at None s pc ≡ Some sh → IsLow p m sh
   states_low s pc sh linked h there =
       let meets = (h.least (all_kept p m s) (kept_typed s linked h.typed)).each pc sh there in
       let w = stood (at None s pc) meets.next (sym (at_kept s pc) ∙ meets.there) in
       let same : w.0 ≡ sh = let f = w.1 in cc in
       let stay : IsTrue (stays p m sh) = rw same at w.2 in
       let is : meets.next ≡ raised_shape p m sh = rw same at w.3 in
-      let back : SaysNoMore (raised_shape p m sh) sh = rw is at meets.no_more in
+      let back : IsImpliedBy (raised_shape p m sh) sh = rw is at meets.implied in
       let both_stay = both (list_all (owned_low p m) sh.registers) (list_all (entry_low p m) sh.entries) stay in
       record {
         registers = λ i. was_low (register sh i) (owned_at sh.registers i both_stay.0)
@@ -491,7 +491,7 @@ module _ (p : Image) (m : ℕ) where
   unfolding over_in method_at
   body_low called k h among = grind (arith, nat_tests, run_from p called k among, overrider_is p k called)
 
-  callee_low : (sh : Shape) (i : Instr) (k : ℕ) → RunsBelow p m (method_class p m) i → IsLow p m sh → Among k (callees p m sh i) → k < m
+  callee_low : (sh : AbstractState) (i : Instr) (k : ℕ) → RunsBelow p m (method_class p m) i → IsLow p m sh → Among k (callees p m sh i) → k < m
   unfolding ChargeBelow
   callee_low sh i k r h among = go (charge_of i) (charge_below (method_class p m) i r) among
     where

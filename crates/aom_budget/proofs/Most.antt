@@ -2,10 +2,10 @@
 use Rattle.std.proofs.lemmas.Bool.Decides.{nat_tests}
 use Rattle.std.proofs.Common.{◌≡◌, ℕ, ◌<◌, ◌≤◌, ◌+◌, ◌⊎◌, List, [], ◌∷◌, inl, inr, refl, subst, arith}
 use Rattle.std.specs.Prelude.{min, max}
-use Rattle.std.proofs.lemmas.Bool.Decides.{eqb_tells, leb_tells}
+use Rattle.std.proofs.lemmas.Bool.Decides.{eqb_reports, leb_reports}
 use Rattle.aom_roles.specs.Tables.{at}
-use Rattle.aom_typings.specs.Calls.{Among}
-use Rattle.aom_budget.specs.Extents.{IsMost, OfSome, Joined, Before}
+use Rattle.aom_static_bounds.specs.Calls.{Among}
+use Rattle.aom_budget.specs.StackDepths.{IsMost, OfSome, Joined, Before}
 use Rattle.aom_budget.specs.Greatest.{most_at}
 
 pub of_none : (cap : ℕ) (some : ℕ → Type 0) → ((k : ℕ) → some k → ⊥) → IsMost cap some 0
@@ -20,7 +20,7 @@ alike cap a b n there back h = record {
 pub of_either : (cap : ℕ) (a b : ℕ → Type 0) (x y : ℕ) → IsMost cap a x → IsMost cap b y → IsMost cap (λ k. a k ⊎ b k) (max x y)
 of_either cap a b x y h i = record {
   above = grind (arith, nat_tests);
-  met = grind (arith, nat_tests, leb_tells x y);
+  met = grind (arith, nat_tests, leb_reports x y);
 }
 
 pub joined : (cap own : ℕ) (others : ℕ → Type 0) (n : ℕ) → IsMost cap others n → IsMost cap (Joined own others) (min (own + n) cap)
@@ -61,7 +61,7 @@ join_last : (here : ℕ → ℕ → Type 0) (count n : ℕ) → Before here coun
 join_last here count n x = grind arith
 
 split_last : (here : ℕ → ℕ → Type 0) (count n : ℕ) → Before here (count + 1) n → Before here count n ⊎ here count n
-split_last here count n h = elim (eqb_tells h.place count) [
+split_last here count n h = elim (eqb_reports h.place count) [
   | inl w ↦ inr (subst (λ place. here place n) w.1 h.comes)
   | inr w ↦ inl (record { place = h.place; below = omega (arith, h.below, w.1); comes = h.comes })
 ]
@@ -79,12 +79,12 @@ before_more cap here count x y h i = grind (
 
 -- ---- below the cap it is the greatest
 
-pub no_more : (cap : ℕ) (some : ℕ → Type 0) (n : ℕ) → IsMost cap some n → n < cap → (k : ℕ) → some k → k ≤ n
-no_more cap some n h few k c = omega (arith, h.above k c, few)
+pub implied : (cap : ℕ) (some : ℕ → Type 0) (n : ℕ) → IsMost cap some n → n < cap → (k : ℕ) → some k → k ≤ n
+implied cap some n h few k c = omega (arith, h.above k c, few)
 
 pub is_one : (cap : ℕ) (some : ℕ → Type 0) (n k : ℕ) → IsMost cap some n → n < cap → some k → some n
 is_one cap some n k h few c = elim h.met [
-  | inl e ↦ let same : k ≡ n = omega (arith, no_more cap some n h few k c, e) in subst some same c
+  | inl e ↦ let same : k ≡ n = omega (arith, implied cap some n h few k c, e) in subst some same c
   | inr w ↦ let same : w.0 ≡ n = omega (arith, w.2, few) in subst some same w.1
 ]
 

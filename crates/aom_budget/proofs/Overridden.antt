@@ -9,25 +9,25 @@ use Rattle.aom_image.specs.Image.{Image}
 use Rattle.aom_image.specs.Views.{method_at}
 use Rattle.aom_image.specs.WellFormed.{OverFits, WellFormed}
 use Rattle.aom_image.specs.declared.method.Method.{Method}
-use Rattle.aom_classes.specs.Overriding.{leads_in, over_in, over_of, overrides}
-use Rattle.aom_budget.proofs.ClassesLemmas.{none_leads}
+use Rattle.aom_link_conditions.specs.Overriding.{leads_in, over_in, overridden_method, overrides}
+use Rattle.aom_budget.proofs.LinkConditionsLemmas.{none_leads}
 
 no_lead : (p : Image) (n m : ℕ) → leads_in p n None m ≡ true → ⊥
 no_lead p n m h = let none = none_leads p n m in cc
 
-module _ (p : Image) (P : ℕ → Type 0) (j : ℕ) (down : (k x : ℕ) → over_of p k ≡ Some x → P x → P k) (base : P j) where
+module _ (p : Image) (P : ℕ → Type 0) (j : ℕ) (down : (k x : ℕ) → overridden_method p k ≡ Some x → P x → P k) (base : P j) where
   led : (n x : ℕ) → leads_in p n (Some x) j ≡ true → P x
   unfolding leads_in
   led zero x h = subst P (sym (eqb-true x j h)) base
   led (suc n) x h = go (x == j) refl h (λ y rest. led n y rest)
     where
-      go : (b : Bool) → (x == j) ≡ b → (b || leads_in p n (over_of p x) j) ≡ true → ((y : ℕ) → leads_in p n (Some y) j ≡ true → P y) → P x
+      go : (b : Bool) → (x == j) ≡ b → (b || leads_in p n (overridden_method p x) j) ≡ true → ((y : ℕ) → leads_in p n (Some y) j ≡ true → P y) → P x
       go true same h later = subst P (sym (eqb-true x j same)) base
       go false other h later =
-          some_given (λ o. leads_in p n o j ≡ true) (over_of p x) h (λ none. absurd (no_lead p n j none)) (λ y is rest. down x y is (later y rest))
+          some_given (λ o. leads_in p n o j ≡ true) (overridden_method p x) h (λ none. absurd (no_lead p n j none)) (λ y is rest. down x y is (later y rest))
 
   pub over_along : (k : ℕ) → overrides p k j ≡ true → P k
-  over_along k over = some_given (λ o. leads_in p (length p.methods) o j ≡ true) (over_of p k) over (λ none. absurd (no_lead p (length p.methods) j none))
+  over_along k over = some_given (λ o. leads_in p (length p.methods) o j ≡ true) (overridden_method p k) over (λ none. absurd (no_lead p (length p.methods) j none))
       (λ x is rest. down k x is (led (length p.methods) x rest))
 
 -- a method that overrides is one of the image's

@@ -14,27 +14,27 @@ use Rattle.aom_image.specs.declared.method.Gives.TheVariants.{Nothing, Word as A
 use Rattle.aom_image.specs.declared.method.Method.{Method}
 use Rattle.aom_roles.specs.Tests.{AllTrue}
 use Rattle.aom_roles.specs.Shapes.{IsShaped, gives_left}
-use Rattle.aom_classes.specs.Linked.{IsLinked}
-use Rattle.aom_budget.proofs.ClassesLemmas.{all_there}
-use Rattle.aom_classes.specs.Overriding.{StandsIn, StandsInNamed, over_in, over_of}
-use Rattle.aom_rules.specs.Calls.{brought, rule_call, rule_trap}
-use Rattle.aom_shape.specs.Entries.{without_top}
-use Rattle.aom_rules.specs.Laws.{HaveAtMost}
-use Rattle.aom_shape.specs.Needs.{Need, Flow}
-use Rattle.aom_rules.specs.Objects.{flow_jump_null, flow_jump_empty}
-use Rattle.aom_rules.specs.Rules.{rule_needs, flows, ways_of}
-use Rattle.aom_shape.specs.Shape.{Shape}
-use Rattle.aom_rules.specs.Ways.{Called, Caught, Goes_on, News, Pushed, Pushed_operation, Ways, after, flowing}
+use Rattle.aom_link_conditions.specs.Linked.{IsLinked}
+use Rattle.aom_budget.proofs.LinkConditionsLemmas.{all_there}
+use Rattle.aom_link_conditions.specs.Overriding.{MayOverride, MayOverrideNamed, over_in, overridden_method}
+use Rattle.aom_typing_rules.specs.Calls.{brought, rule_call, rule_trap}
+use Rattle.aom_abstract_state.specs.Entries.{without_top}
+use Rattle.aom_typing_rules.specs.Laws.{HaveAtMost}
+use Rattle.aom_abstract_state.specs.Needs.{Need, Flow}
+use Rattle.aom_typing_rules.specs.Objects.{flow_jump_null, flow_jump_empty}
+use Rattle.aom_typing_rules.specs.Rules.{rule_needs, flows, ways_of}
+use Rattle.aom_abstract_state.specs.AbstractState.{AbstractState}
+use Rattle.aom_typing_rules.specs.Ways.{Called, Caught, Goes_on, News, Pushed, Pushed_operation, Ways, after, flowing}
 use Rattle.aom_roles.specs.Tables.{at}
-use Rattle.aom_shape.specs.Arguments.{entry_shape}
-use Rattle.aom_shape.specs.declared.kind.CleanupEntry.{CleanupEntry}
-use Rattle.aom_shape.specs.declared.kind.Filling.{Filling}
-use Rattle.aom_shape.specs.declared.kind.Kind.{Kind}
-use Rattle.aom_budget.proofs.RulesLemmas.{by_states, lasting_has}
-use Rattle.aom_typings.specs.Shapes.{Shapes, Meets, AllMet, IsMethodTyped}
-use Rattle.aom_typings.specs.Heights.{StandsAt, Enters, CallsOver, Heights}
-use Rattle.aom_typings.specs.Heights.Heights.{own, under}
-use Rattle.aom_typings.specs.Layers.{MayRun}
+use Rattle.aom_abstract_state.specs.Arguments.{entry_shape}
+use Rattle.aom_abstract_state.specs.declared.kind.CleanupEntry.{CleanupEntry}
+use Rattle.aom_abstract_state.specs.declared.kind.FieldState.{FieldState}
+use Rattle.aom_abstract_state.specs.declared.kind.Kind.{Kind}
+use Rattle.aom_budget.proofs.TypingRulesLemmas.{by_states, lasting_has}
+use Rattle.aom_static_bounds.specs.Shapes.{Shapes, Meets, AllMet, IsMethodTyped}
+use Rattle.aom_static_bounds.specs.Heights.{StandsAt, Enters, CallsOver, Heights}
+use Rattle.aom_static_bounds.specs.Heights.Heights.{own, under}
+use Rattle.aom_static_bounds.specs.Layers.{MayRun}
 use Rattle.aom_budget.proofs.Overridden.{over_along}
 
 -- ---- flags
@@ -65,7 +65,7 @@ quiet_keeps p m linked quiet = go (method_at p m) refl quiet
     go (Some d) e q = by d d.gives (all_there (IsShaped p) p.methods m d linked.shapes e) refl q
 
 -- what runs in the place of a quiet method is quiet
-over_quiet : (p : Image) → IsLinked p → (k x : ℕ) → over_of p k ≡ Some x → is_quiet p x ≡ true → is_quiet p k ≡ true
+over_quiet : (p : Image) → IsLinked p → (k x : ℕ) → overridden_method p k ≡ Some x → is_quiet p x ≡ true → is_quiet p k ≡ true
 unfolding over_in method_at quiet_in
 over_quiet p linked k x over quiet = go (method_at p k) refl (method_at p x) refl over quiet
   where
@@ -73,8 +73,8 @@ over_quiet p linked k x over quiet = go (method_at p k) refl (method_at p x) ref
     go None is n at over quiet = cc
     go (Some d) is None at over quiet = cc
     go (Some d) is (Some e) at over quiet =
-        let stands = all_there (StandsInNamed p) p.methods k d linked.overriders.each is in
-        let asks = (subst (λ o. IfSome o (StandsIn p d)) at (subst (λ o. IfSome o (λ m. IfSome (method_at p m) (StandsIn p d))) over stands)).asks in
+        let stands = all_there (MayOverrideNamed p) p.methods k d linked.overriders.each is in
+        let asks = (subst (λ o. IfSome o (MayOverride p d)) at (subst (λ o. IfSome o (λ m. IfSome (method_at p m) (MayOverride p d))) over stands)).asks in
         asks.quiet quiet
 
 run_quiet : (p : Image) → IsLinked p → (j k : ℕ) → is_quiet p j ≡ true → MayRun p j k → is_quiet p k ≡ true
@@ -89,7 +89,7 @@ low none = rw none (omega arith)
 top_low : (es : List CleanupEntry) → es ≡ [] → length (without_top es) ≤ 0
 top_low es none = rw none (omega arith)
 
-brings_none : (g : Gives) (c : ℕ) (sh : Shape) → gives_left g ≡ false → length (brought g c sh).entries ≡ length sh.entries
+brings_none : (g : Gives) (c : ℕ) (sh : AbstractState) → gives_left g ≡ false → length (brought g c sh).entries ≡ length sh.entries
 unfolding gives_left
 brings_none x c sh e = grind arith
 
@@ -98,16 +98,16 @@ rest_true [] ys h = h
 rest_true (x ∷ xs) ys h = rest_true xs ys h.1
 
 module _ (p : Image) (m : ℕ) (linked : IsLinked p) (quiet : is_quiet p m ≡ true) where
-  callee_quiet : (pc : ℕ) (sh : Shape) (target : Target) (k first c : ℕ) → AllTrue (rule_call p m pc sh target k first c) → is_quiet p k ≡ true
+  callee_quiet : (pc : ℕ) (sh : AbstractState) (target : Target) (k first c : ℕ) → AllTrue (rule_call p m pc sh target k first c) → is_quiet p k ≡ true
   callee_quiet pc sh target k first c needs = grind (arith, nat_tests, rest_true)
 
-  untrapped : (pc : ℕ) (sh : Shape) (target : Target) (k first c : ℕ) → AllTrue (rule_trap p m pc sh target k first c) → ⊥
+  untrapped : (pc : ℕ) (sh : AbstractState) (target : Target) (k first c : ℕ) → AllTrue (rule_trap p m pc sh target k first c) → ⊥
   untrapped pc sh target k first c needs = true≢false (sym needs.0 ∙ ap not quiet)
 
-  null_low : (pc : ℕ) (sh : Shape) (kind : Kind) (r to : ℕ) → sh.entries ≡ [] → HaveAtMost 0 (flow_jump_null p m pc sh kind r to)
+  null_low : (pc : ℕ) (sh : AbstractState) (kind : Kind) (r to : ℕ) → sh.entries ≡ [] → HaveAtMost 0 (flow_jump_null p m pc sh kind r to)
   null_low pc sh x r to none = grind (arith, nat_tests, low none)
 
-  empty_low : (pc : ℕ) (sh : Shape) (x : Filling) (f to : ℕ) → sh.entries ≡ [] → HaveAtMost 0 (flow_jump_empty p m pc sh x f to)
+  empty_low : (pc : ℕ) (sh : AbstractState) (x : FieldState) (f to : ℕ) → sh.entries ≡ [] → HaveAtMost 0 (flow_jump_empty p m pc sh x f to)
   empty_low pc sh x f to none = grind (arith, nat_tests, low none)
 
   -- nothing is pushed, no trap is set, and what is called is quiet too
@@ -118,27 +118,27 @@ module _ (p : Image) (m : ℕ) (linked : IsLinked p) (quiet : is_quiet p m ≡ t
   IsQuietly (Goes_on (Caught target k first c)) = ⊥
   IsQuietly _ = true ≡ true
 
-  quietly : (pc : ℕ) (sh : Shape) (i : Instr) → AllTrue (rule_needs p m pc sh i) → IsQuietly (ways_of p i)
+  quietly : (pc : ℕ) (sh : AbstractState) (i : Instr) → AllTrue (rule_needs p m pc sh i) → IsQuietly (ways_of p i)
   unfolding IsQuietly
   quietly pc sh x needs = grind (arith, nat_tests, quiet_stays p m linked quiet, callee_quiet pc sh, untrapped pc sh)
 
-  after_none : (pc : ℕ) (sh : Shape) (news : News) → IsQuietly (Goes_on news) → sh.entries ≡ [] → length (after p m pc sh news).entries ≤ 0
+  after_none : (pc : ℕ) (sh : AbstractState) (news : News) → IsQuietly (Goes_on news) → sh.entries ≡ [] → length (after p m pc sh news).entries ≤ 0
   unfolding IsQuietly
   after_none pc sh x q none = grind (arith, nat_tests, top_low sh.entries none, brings_none, quiet_keeps p, lasting_has, low none)
 
-  ways_none : (pc : ℕ) (sh : Shape) (ways : Ways) → IsQuietly ways → sh.entries ≡ [] → HaveAtMost 0 (flowing p m pc sh ways)
+  ways_none : (pc : ℕ) (sh : AbstractState) (ways : Ways) → IsQuietly ways → sh.entries ≡ [] → HaveAtMost 0 (flowing p m pc sh ways)
   ways_none pc sh x q none = grind (arith, nat_tests, after_none pc sh, low none, null_low pc sh, empty_low pc sh, by_states)
 
-  stays_low : (pc : ℕ) (sh : Shape) (i : Instr) → AllTrue (rule_needs p m pc sh i) → sh.entries ≡ [] → HaveAtMost 0 (flows p m pc sh i)
+  stays_low : (pc : ℕ) (sh : AbstractState) (i : Instr) → AllTrue (rule_needs p m pc sh i) → sh.entries ≡ [] → HaveAtMost 0 (flows p m pc sh i)
   stays_low pc sh i needs none = ways_none pc sh (ways_of p i) (quietly pc sh i needs) none
 
 -- ---- the states without entries
 
-with_none : Shape → List CleanupEntry → Option Shape
+with_none : AbstractState → List CleanupEntry → Option AbstractState
 with_none sh [] = Some sh
 with_none sh (e ∷ es) = None
 
-lowest_at : Option Shape → Option Shape
+lowest_at : Option AbstractState → Option AbstractState
 lowest_at None = None
 lowest_at (Some sh) = with_none sh sh.entries
 
@@ -152,22 +152,22 @@ at_lowest (x ∷ xs) zero = refl
 at_lowest (x ∷ xs) (suc pc) = at_lowest xs pc
 
 -- what stands there stood there, with no entries
-stood : (o : Option Shape) (sh : Shape) → lowest_at o ≡ Some sh → (o ≡ Some sh) × (sh.entries ≡ [])
+stood : (o : Option AbstractState) (sh : AbstractState) → lowest_at o ≡ Some sh → (o ≡ Some sh) × (sh.entries ≡ [])
 unfolding lowest_at with_none
 stood o sh e = grind (arith, nat_tests, some_given, lowest_at, nil_given, with_none)
 
-stays_there : (sh : Shape) → sh.entries ≡ [] → lowest_at (Some sh) ≡ Some sh
+stays_there : (sh : AbstractState) → sh.entries ≡ [] → lowest_at (Some sh) ≡ Some sh
 unfolding lowest_at with_none
 stays_there sh none = ap (with_none sh) none
 
 no_length : (es : List CleanupEntry) → length es ≤ 0 → es ≡ []
 no_length es h = nil_given (λ xs. length xs ≤ 0) es h (λ x xs some. omega (arith, some)) (λ e none. e)
 
-meets_lowest : (s : Shapes) (to : ℕ) (sh : Shape) → length sh.entries ≤ 0 → Meets s to sh → Meets (lowest s) to sh
+meets_lowest : (s : Shapes) (to : ℕ) (sh : AbstractState) → length sh.entries ≤ 0 → Meets s to sh → Meets (lowest s) to sh
 meets_lowest s to sh few h = record {
   next = h.next;
-  there = at_lowest s to ∙ (ap lowest_at h.there ∙ stays_there h.next (h.no_more.entries ∙ no_length sh.entries few));
-  no_more = h.no_more;
+  there = at_lowest s to ∙ (ap lowest_at h.there ∙ stays_there h.next (h.implied.entries ∙ no_length sh.entries few));
+  implied = h.implied;
 }
 
 all_lowest : (s : Shapes) (ways : List Flow) → HaveAtMost 0 ways → AllMet s ways → AllMet (lowest s) ways
@@ -189,15 +189,15 @@ lowest_typed p m s linked quiet h = record {
   entry = meets_lowest s 0 (entry_shape p m) (omega arith) h.entry;
 }
 
-stands_lowest : (p : Image) (m place : ℕ) (sh : Shape) → IsLinked p → is_quiet p m ≡ true → StandsAt p m place sh → sh.entries ≡ []
+stands_lowest : (p : Image) (m place : ℕ) (sh : AbstractState) → IsLinked p → is_quiet p m ≡ true → StandsAt p m place sh → sh.entries ≡ []
 stands_lowest p m place sh linked quiet h =
     let meets = (h.strongest.least (lowest h.states) (lowest_typed p m h.states linked quiet h.strongest.typed)).each place sh h.there in
     let there = stood (at None h.states place) meets.next (sym (at_lowest h.states place) ∙ meets.there) in
-    sym meets.no_more.entries ∙ there.1
+    sym meets.implied.entries ∙ there.1
 
 -- ---- heights
 
-entered_quiet : (p : Image) (m pc : ℕ) (sh : Shape) (i : Instr) (k : ℕ) → IsLinked p → is_quiet p m ≡ true → Enters p i k →
+entered_quiet : (p : Image) (m pc : ℕ) (sh : AbstractState) (i : Instr) (k : ℕ) → IsLinked p → is_quiet p m ≡ true → Enters p i k →
     AllTrue (rule_needs p m pc sh i) → is_quiet p k ≡ true
 entered_quiet p m pc sh x k linked quiet enters needs = grind (
   arith,

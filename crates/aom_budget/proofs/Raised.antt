@@ -10,14 +10,14 @@ use Rattle.aom_image.specs.WellFormed.{WellFormed}
 use Rattle.aom_budget.proofs.RolesLemmas.{itself, no_higher}
 use Rattle.aom_roles.specs.Families.{descends}
 use Rattle.aom_roles.specs.Tables.{at}
-use Rattle.aom_budget.proofs.ShapeLemmas.{at_past}
-use Rattle.aom_typings.specs.Calls.{Among, bodies, each_below}
-use Rattle.aom_typings.specs.Layers.{MayRun}
-use Rattle.aom_typings.specs.Most.{most_below, most_of}
-use Rattle.aom_budget.proofs.TypingsLemmas.{most_has, most_least, run_among}
+use Rattle.aom_budget.proofs.AbstractStateLemmas.{at_past}
+use Rattle.aom_static_bounds.specs.Calls.{Among, bodies, each_below}
+use Rattle.aom_static_bounds.specs.Layers.{MayRun}
+use Rattle.aom_static_bounds.specs.Most.{most_below, most_of}
+use Rattle.aom_budget.proofs.StaticBoundsLemmas.{most_has, most_least, run_among}
 use Rattle.aom_budget.specs.Greatest.{IsCalled, IsGreatest, is_body, most_at}
-use Rattle.aom_budget.proofs.Greatest.{below_most, most_of_noughts, most_other, most_set, run_from}
-use Rattle.aom_budget.proofs.Keeping.{at_noughts}
+use Rattle.aom_budget.proofs.Greatest.{below_most, most_of_zeros_only, most_other, most_set, run_from}
+use Rattle.aom_budget.proofs.Keeping.{at_zeros_only}
 use Rattle.aom_budget.proofs.Overridden.{overridden_there}
 
 -- ---- class by class
@@ -73,10 +73,10 @@ greatest_made p ns lists absent old table size below raised =
 
 -- ---- where nothing is found yet
 
-pub noughts_greatest : (count n : ℕ) (lists : ℕ → List ℕ) (m : ℕ) → m ≡ count → IsGreatest count lists (replicate n 0) (replicate m 0)
-noughts_greatest count n lists m same = record {
+pub zeros_only_greatest : (count n : ℕ) (lists : ℕ → List ℕ) (m : ℕ) → m ≡ count → IsGreatest count lists (replicate n 0) (replicate m 0)
+zeros_only_greatest count n lists m same = record {
   size = length-replicate {A = ℕ} m 0 ∙ same;
-  each = λ k. at_noughts m k ∙ sym (most_of_noughts n (lists k));
+  each = λ k. at_zeros_only m k ∙ sym (most_of_zeros_only n (lists k));
 }
 
 -- ---- along overriders

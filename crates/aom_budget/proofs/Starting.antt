@@ -6,10 +6,10 @@ use Rattle.aom_image.specs.Image.{Image}
 use Rattle.aom_image.specs.Views.{instr_at, transfer_at}
 use Rattle.aom_instructions.specs.declared.instr.Instr.{Instr}
 use Rattle.aom_instructions.specs.declared.transfer.Transfer.{Transfer}
-use Rattle.aom_budget.proofs.ClassesLemmas.{of_method}
+use Rattle.aom_budget.proofs.LinkConditionsLemmas.{of_method}
 use Rattle.aom_budget.proofs.ImageLemmas.{transfer_there}
-use Rattle.aom_typings.specs.Shapes.{Shapes}
-use Rattle.aom_typings.specs.Strongest.{IsMethodStrongest}
+use Rattle.aom_static_bounds.specs.Shapes.{Shapes}
+use Rattle.aom_static_bounds.specs.Strongest.{IsMethodStrongest}
 use Rattle.aom_verify.specs.Sweep.{HasPlaces}
 use Rattle.aom_budget.specs.Pricing.{IsPassing}
 use Rattle.aom_budget.specs.declared.pass.Round as rounds
@@ -33,9 +33,9 @@ module _ (p : Image) (m n : ℕ) (places : HasPlaces p m n) where
       swept = λ t c a agrees. record {
         plain = λ x sh i r past stands no_loop no_next inner. absurd (omega (arith, past, instr_within x _ stands.instr));
         loops = λ x d k sh past stands. absurd (omega (arith, past, transfer_within x _ stands.goes));
-        nexts = λ x d f sh past stands. absurd (omega (arith, past, transfer_within x _ stands.goes));
+        next_places = λ x d f sh past stands. absurd (omega (arith, past, transfer_within x _ stands.goes));
         rounds = λ f to d k past b some. absurd (omega (arith, past, transfer_within f _ b.begins));
-        afters = λ f to d k r past b inner. absurd (omega (arith, past, transfer_within to _ b.ends));
+        loop_exits = λ f to d k r past b inner. absurd (omega (arith, past, transfer_within to _ b.ends));
       };
     };
     within = record {

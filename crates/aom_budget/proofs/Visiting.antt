@@ -7,19 +7,19 @@ use Rattle.aom_image.specs.Image.{Image}
 use Rattle.aom_image.specs.Views.{instr_at}
 use Rattle.aom_instructions.specs.declared.instr.Instr.{Instr}
 use Rattle.aom_image.specs.WellFormed.{WellFormed}
-use Rattle.aom_budget.proofs.ClassesLemmas.{linked_is_looped}
-use Rattle.aom_classes.specs.Bodies.{Body, IsLooped}
-use Rattle.aom_classes.specs.Linked.{IsLinked}
-use Rattle.aom_classes.specs.Loops.{loop_in, next_in, repeated_by}
-use Rattle.aom_shape.specs.Shape.{Shape}
+use Rattle.aom_budget.proofs.LinkConditionsLemmas.{linked_is_looped}
+use Rattle.aom_link_conditions.specs.Bodies.{Body, IsLooped}
+use Rattle.aom_link_conditions.specs.Linked.{IsLinked}
+use Rattle.aom_link_conditions.specs.Loops.{loop_in, next_in, repeated_by}
+use Rattle.aom_abstract_state.specs.AbstractState.{AbstractState}
 use Rattle.aom_roles.specs.Tables.{at}
-use Rattle.aom_budget.proofs.ShapeLemmas.{at_set_here, at_set_other}
-use Rattle.aom_typings.specs.Shapes.{Shapes}
-use Rattle.aom_typings.specs.Strongest.{IsMethodStrongest}
+use Rattle.aom_budget.proofs.AbstractStateLemmas.{at_set_here, at_set_other}
+use Rattle.aom_static_bounds.specs.Shapes.{Shapes}
+use Rattle.aom_static_bounds.specs.Strongest.{IsMethodStrongest}
 use Rattle.aom_verify.specs.Sweep.{HasPlaces}
 use Rattle.aom_budget.proofs.VerifyLemmas.{has_instr}
-use Rattle.aom_typings.specs.Costs.{Region, Whole, Round}
-use Rattle.aom_budget.proofs.TypingsLemmas.{BeginsLoop, EndsRound, LoopIn, by_kind, next_is_no_loop, one_end, stands_so}
+use Rattle.aom_static_bounds.specs.Costs.{Region, Whole, Round}
+use Rattle.aom_budget.proofs.StaticBoundsLemmas.{BeginsLoop, EndsRound, LoopIn, by_kind, next_is_no_loop, one_end, stands_so}
 use Rattle.aom_budget.specs.Pricing.{AreKept, kept, after_in, Follows, IsPassing, region_of, found_by, plain_cost}
 use Rattle.aom_budget.specs.declared.pass.Round as rounds
 use Rattle.aom_budget.proofs.Passing.{Extends}
@@ -28,7 +28,7 @@ use Rattle.aom_budget.proofs.Rounds.{within_plain, within_loop, within_next}
 
 pub instr_there : (p : Image) (m n place : ℕ) → HasPlaces p m n → place < n → IsSome (instr_at p m place)
 instr_there p m n place h within =
-    let size = length-replicate {A = Option Shape} n None in
+    let size = length-replicate {A = Option AbstractState} n None in
     has_instr p m (replicate n None) place (record { method = h.method; is = h.is; size = size ∙ h.size }) (omega (arith, within, size))
 
 -- a next closes a loop that begins before it
@@ -54,11 +54,11 @@ module _ (p : Image) (prices : List ℕ) (m : ℕ) (s : Shapes) (looped : IsLoop
     module _ (low : AreKept from) (low_after : AreKept after) (from' after' : List ℕ) (others : (y : ℕ) → y ≢ x → at 0 from' y ≡ at 0 from y)
         (size : length from' ≡ length from) where
       kept_on : (same : after' ≡ after) → Extends p m x (found_by from after) (found_by from' after')
-      kept_on same = record { froms = λ y past. others y (λ e. omega (arith, past, e)); afters = λ f to d n past b. ap (λ l. at 0 l f) same }
+      kept_on same = record { from_costs = λ y past. others y (λ e. omega (arith, past, e)); loop_exits = λ f to d n past b. ap (λ l. at 0 l f) same }
 
       pub visit_plain :
           (i : Instr) → instr_at p m x ≡ Some i → loop_in (Some i) ≡ None → next_in (Some i) ≡ None → after' ≡ after →
-          ((sh : Shape) → at None s x ≡ Some sh → at 0 from' x ≡ plain_cost p m prices (found_by from after) (region_of inner) x sh i) →
+          ((sh : AbstractState) → at None s x ≡ Some sh → at 0 from' x ≡ plain_cost p m prices (found_by from after) (region_of inner) x sh i) →
           IsPassing p prices m s x from' after' inner around
       visit_plain i stands no_loop no_next same value =
           let within = within_plain p m looped x i inner around stands no_loop no_next h.within in
@@ -74,7 +74,7 @@ module _ (p : Image) (prices : List ℕ) (m : ℕ) (s : Shapes) (looped : IsLoop
 
       pub visit_loop :
           (d n : ℕ) → LoopIn (instr_at p m x) d n → after' ≡ after →
-          ((sh : Shape) → at None s x ≡ Some sh → at 0 from' x ≡ kept (1 + (n - 1) * (at 0 from (suc x) - at 0 after x) + at 0 from (suc x))) →
+          ((sh : AbstractState) → at None s x ≡ Some sh → at 0 from' x ≡ kept (1 + (n - 1) * (at 0 from (suc x) - at 0 after x) + at 0 from (suc x))) →
           IsPassing p prices m s x from' after' (at None around x) around
       visit_loop d n stands same value = record {
         passed = loop_more p prices m s looped linked strongest x _ _ (kept_on same) h.passed d n stands same low value;
@@ -86,14 +86,14 @@ module _ (p : Image) (prices : List ℕ) (m : ℕ) (s : Shapes) (looped : IsLoop
 
       next_on : (f d n w : ℕ) → Body p m f x d n → after' ≡ slice_set after f w → Extends p m x (found_by from after) (found_by from' after')
       next_on f d n w body is = record {
-        froms = λ y past. others y (λ e. omega (arith, past, e));
-        afters = λ g to e l past b.
+        from_costs = λ y past. others y (λ e. omega (arith, past, e));
+        loop_exits = λ g to e l past b.
             let other : g ≢ f = λ same. let ends = one_end p looped m f x to d n e l body (subst (λ y. Body p m y to e l) same b) in omega (arith, ends, past) in
             ap (λ l. at 0 l g) is ∙ at_set_other 0 after f g w other;
       }
 
       pub visit_next : (f d n w : ℕ) → Body p m f x d n → f < length from → Follows p m s from (after_in after (region_of inner)) f x w →
-          w ≤ 4294967296 → after' ≡ slice_set after f w → ((sh : Shape) → at None s x ≡ Some sh → at 0 from' x ≡ kept (1 + w)) →
+          w ≤ 4294967296 → after' ≡ slice_set after f w → ((sh : AbstractState) → at None s x ≡ Some sh → at 0 from' x ≡ kept (1 + w)) →
           IsPassing p prices m s x from' after' (Some (record { first = f; last = x })) (slice_set around f inner)
       visit_next f d n w body inside follows small is value =
           let room : f < length after = omega (arith, inside, h.after_size) in

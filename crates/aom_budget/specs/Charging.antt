@@ -1,5 +1,5 @@
 -- What the code takes an instruction to set going.
-use Rattle.aom_typings.specs.Charges.{Charge, No_charge, A_call, An_operation, A_destruction, A_cancel}
+use Rattle.aom_static_bounds.specs.Charges.{Charge, No_charge, A_call, An_operation, A_destruction, A_cancel}
 use Rattle.aom_budget.specs.declared.charges.Charge.{Charge as CodeCharge}
 use Rattle.aom_budget.specs.declared.charges.Charge.TheVariants as charges
 

@@ -8,14 +8,14 @@ use Rattle.aom_image.specs.declared.class.ClassKind.TheVariants.{Plain, Active, 
 use Rattle.aom_image.specs.declared.method.Role.{Role}
 use Rattle.aom_image.specs.declared.method.Role.TheVariants.{Run, Error, Accept, Service}
 use Rattle.aom_image.specs.declared.method.Thing.TheVariants.{Object}
-use Rattle.aom_classes.specs.Roles.{main_of, role_of}
+use Rattle.aom_link_conditions.specs.Roles.{main_of, role_of}
 use Rattle.aom_budget.specs.Budgets.{declared_by}
-use Rattle.aom_budget.specs.Extents.{AreFilled}
+use Rattle.aom_budget.specs.StackDepths.{AreFilled}
 use Rattle.aom_budget.specs.Pricing.{ArePriced, destruction_by, kept, price_by}
 use Rattle.aom_budget.specs.declared.fault.BudgetFault.{BudgetFault}
 use Rattle.aom_budget.specs.declared.fault.BudgetFault.TheVariants.{OverBudget}
-use Rattle.aom_budget.specs.declared.fault.Payer.{Payer}
-use Rattle.aom_budget.specs.declared.fault.Payer.TheVariants.{Main, Class}
+use Rattle.aom_budget.specs.declared.fault.BudgetOwner.{BudgetOwner}
+use Rattle.aom_budget.specs.declared.fault.BudgetOwner.TheVariants.{Main, Class}
 
 pub record Figures : Type 0 where
   -- frames, up to 257
@@ -55,28 +55,28 @@ abbrev pub class_by : Image → List ℕ → ℕ → Option ClassDecl → ℕ
 class_by p prices k None = 0
 class_by p prices k (Some class) = kind_by p prices k class.kind
 
-abbrev pub payer_by : Image → List ℕ → Payer → ℕ
-payer_by p prices Main = main_by p prices
-payer_by p prices (Class k) = class_by p prices k (class_at p k)
+abbrev pub budget_owner_by : Image → List ℕ → BudgetOwner → ℕ
+budget_owner_by p prices Main = main_by p prices
+budget_owner_by p prices (Class k) = class_by p prices k (class_at p k)
 
 -- ---- whether that is within what is declared
 
-abbrev pub IsWithin : Image → List ℕ → Payer → Type 0
-IsWithin p prices payer = (most : ℕ) → declared_by p payer ≡ Some most → payer_by p prices payer ≤ most
+abbrev pub IsWithin : Image → List ℕ → BudgetOwner → Type 0
+IsWithin p prices budget_owner = (most : ℕ) → declared_by p budget_owner ≡ Some most → budget_owner_by p prices budget_owner ≤ most
 
 -- it is more, and the fault tells so
-pub record TellsOver (p : Image) (prices : List ℕ) (payer : Payer) (fault : BudgetFault) : Type 0 where
+pub record ReportsOver (p : Image) (prices : List ℕ) (budget_owner : BudgetOwner) (fault : BudgetFault) : Type 0 where
   pub most : ℕ
-  pub declares : declared_by p payer ≡ Some most
-  pub over : most < payer_by p prices payer
-  pub is : fault ≡ OverBudget payer (payer_by p prices payer) most
+  pub declares : declared_by p budget_owner ≡ Some most
+  pub over : most < budget_owner_by p prices budget_owner
+  pub is : fault ≡ OverBudget budget_owner (budget_owner_by p prices budget_owner) most
 
 -- so many classes, by number, are within
 abbrev pub ClassesWithin : Image → List ℕ → ℕ → Type 0
 ClassesWithin p prices count = (k : ℕ) → k < count → IsWithin p prices (Class k)
 
 -- the fault tells of the first class that is not
-pub record TellsFirst (p : Image) (prices : List ℕ) (fault : BudgetFault) : Type 0 where
+pub record ReportsFirst (p : Image) (prices : List ℕ) (fault : BudgetFault) : Type 0 where
   pub class : ℕ
-  pub tells : TellsOver p prices (Class class) fault
+  pub reports : ReportsOver p prices (Class class) fault
   pub earlier : ClassesWithin p prices class

@@ -1,8 +1,8 @@
 -- Tables of the greatest numbers, each made by raising it: over what a call of a method may run, and over what may stand for a class.
 use Rattle.std.specs.Prelude.{ℕ, ◌≡◌, Bool, ◌==◌, ◌||◌, max, List, [], ◌∷◌, length, Some}
 use Rattle.aom_image.specs.Image.{Image}
-use Rattle.aom_classes.specs.Overriding.{overrides}
-use Rattle.aom_typings.specs.Calls.{bodies, cancels, destructors}
+use Rattle.aom_link_conditions.specs.Overriding.{overrides}
+use Rattle.aom_static_bounds.specs.Calls.{bodies, cancels, destructors}
 use Rattle.aom_roles.specs.Tables.{at}
 
 -- a call of a method may run it

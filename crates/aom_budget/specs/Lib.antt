@@ -1,6 +1,6 @@
 pub mod Faults
 pub mod Greatest
-pub mod Extents
+pub mod StackDepths
 pub mod Reaching
 pub mod Charging
 pub mod Pricing

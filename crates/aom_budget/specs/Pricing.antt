@@ -5,29 +5,29 @@ use Rattle.aom_image.specs.Views.{instr_at, method_at, method_class}
 use Rattle.aom_instructions.specs.declared.instr.Instr.{Instr}
 use Rattle.aom_image.specs.declared.method.Role.TheVariants as roles
 use Rattle.aom_image.specs.declared.method.Thing.{Thing}
-use Rattle.aom_classes.specs.Roles.{role_of}
-use Rattle.aom_classes.specs.Bodies.{Body, IsIn}
-use Rattle.aom_rules.specs.Rules.{ways_of}
-use Rattle.aom_rules.specs.Ways.{Ways, Ends, Goes_on, Goes_to, Branches, Goes_back, Branches_on_null, Branches_on_empty, Branches_in}
-use Rattle.aom_shape.specs.Kinds.{register, field}
-use Rattle.aom_shape.specs.Shape.{Shape}
+use Rattle.aom_link_conditions.specs.Roles.{role_of}
+use Rattle.aom_link_conditions.specs.Bodies.{Body, IsIn}
+use Rattle.aom_typing_rules.specs.Rules.{ways_of}
+use Rattle.aom_typing_rules.specs.Ways.{Ways, Ends, Goes_on, Goes_to, Branches, Goes_back, Branches_on_null, Branches_on_empty, Branches_in}
+use Rattle.aom_abstract_state.specs.Kinds.{register, field}
+use Rattle.aom_abstract_state.specs.AbstractState.{AbstractState}
 use Rattle.aom_roles.specs.Tables.{at}
-use Rattle.aom_rules.specs.Typing.{Typing}
-use Rattle.aom_shape.specs.declared.kind.Filling.{Filling}
-use Rattle.aom_shape.specs.declared.kind.Filling.TheVariants.{Empty, Full, Perhaps}
-use Rattle.aom_shape.specs.declared.kind.Kind.{Kind}
-use Rattle.aom_shape.specs.declared.kind.Kind.TheVariants.{Unset, Word, Null, Own, Maybe}
-use Rattle.aom_typings.specs.Shapes.{Shapes}
-use Rattle.aom_typings.specs.Strongest.{IsMethodStrongest, IsStrongest}
-use Rattle.aom_typings.specs.Charges.{Charge, No_charge, A_call, An_operation, A_destruction, A_cancel, charge_of}
-use Rattle.aom_typings.specs.Calls.{Among}
-use Rattle.aom_typings.specs.Most.{most_below, most_run}
+use Rattle.aom_typing_rules.specs.Typing.{Typing}
+use Rattle.aom_abstract_state.specs.declared.kind.FieldState.{FieldState}
+use Rattle.aom_abstract_state.specs.declared.kind.FieldState.TheVariants.{Empty, Full, Perhaps}
+use Rattle.aom_abstract_state.specs.declared.kind.Kind.{Kind}
+use Rattle.aom_abstract_state.specs.declared.kind.Kind.TheVariants.{Unset, Word, Null, Own, Maybe}
+use Rattle.aom_static_bounds.specs.Shapes.{Shapes}
+use Rattle.aom_static_bounds.specs.Strongest.{IsMethodStrongest, IsStrongest}
+use Rattle.aom_static_bounds.specs.Charges.{Charge, No_charge, A_call, An_operation, A_destruction, A_cancel, charge_of}
+use Rattle.aom_static_bounds.specs.Calls.{Among}
+use Rattle.aom_static_bounds.specs.Most.{most_below, most_run}
 use Rattle.aom_verify.specs.Sweep.{HasPlaces}
-use Rattle.aom_typings.specs.Prices.{Prices, price}
-use Rattle.aom_typings.specs.Costs.{Region, Whole, Round, ArePrices, destructor_price}
-use Rattle.aom_typings.specs.Layers.{ArePricesUpTo}
-use Rattle.aom_typings.specs.Sweeping.{Afters, IsInnermost, IsSweptFrom, all_going, is_past}
-use Rattle.aom_budget.specs.Extents.{IsMost, Before}
+use Rattle.aom_static_bounds.specs.Prices.{Prices, price}
+use Rattle.aom_static_bounds.specs.Costs.{Region, Whole, Round, ArePrices, destructor_price}
+use Rattle.aom_static_bounds.specs.Layers.{ArePricesUpTo}
+use Rattle.aom_static_bounds.specs.Sweeping.{LoopExits, IsInnermost, IsSweptFrom, all_going, is_past}
+use Rattle.aom_budget.specs.StackDepths.{IsMost, Before}
 use Rattle.aom_budget.specs.declared.pass.Round as rounds
 
 -- all that is more counts for 2^32
@@ -61,7 +61,7 @@ cancel_by p prices None = 0
 cancel_by p prices (Some x) = most_below p (λ y. price_by prices (role_of p y roles.Cancel)) x
 
 -- what it costs that an instruction of a method sets going
-abbrev pub charge_by : Image → (m : ℕ) → List ℕ → Shape → Charge → ℕ
+abbrev pub charge_by : Image → (m : ℕ) → List ℕ → AbstractState → Charge → ℕ
 charge_by p m prices sh No_charge = 0
 charge_by p m prices sh (A_call k) = most_run p (at 0 prices) k
 charge_by p m prices sh (An_operation k) = at 0 prices k
@@ -69,7 +69,7 @@ charge_by p m prices sh (A_destruction a) = kind_by p prices (register sh a)
 charge_by p m prices sh A_cancel = cancel_by p prices (method_class p m)
 
 -- what the instruction costs itself
-abbrev pub own_by : Image → (m : ℕ) → List ℕ → Shape → Instr → ℕ
+abbrev pub own_by : Image → (m : ℕ) → List ℕ → AbstractState → Instr → ℕ
 own_by p m prices sh i = 1 + charge_by p m prices sh (charge_of i)
 
 -- ---- places
@@ -81,7 +81,7 @@ null_targets next Null to = to ∷ []
 null_targets next (Own t a) to = next ∷ []
 null_targets next (Maybe t a) to = next ∷ to ∷ []
 
-abbrev pub empty_targets : ℕ → Filling → ℕ → List ℕ
+abbrev pub empty_targets : ℕ → FieldState → ℕ → List ℕ
 empty_targets next Empty to = to ∷ []
 empty_targets next Full to = next ∷ []
 empty_targets next Perhaps to = next ∷ to ∷ []
@@ -91,7 +91,7 @@ abbrev pub states_targets : (next here to there : ℕ) → List ℕ
 states_targets next here to there = cond (here == 0) [] (next ∷ []) ++ cond (there == 0) [] (to ∷ [])
 
 -- where an instruction goes on that has those ways and whose rule applies
-abbrev pub targets_by : ℕ → Shape → Ways → List ℕ
+abbrev pub targets_by : ℕ → AbstractState → Ways → List ℕ
 targets_by place sh Ends = []
 targets_by place sh (Goes_on news) = suc place ∷ []
 targets_by place sh (Goes_to to) = to ∷ []
@@ -101,7 +101,7 @@ targets_by place sh (Branches_on_null a to) = null_targets (suc place) (register
 targets_by place sh (Branches_on_empty f to) = empty_targets (suc place) (field sh f) to
 targets_by place sh (Branches_in there here to) = states_targets (suc place) (bit_and sh.states here) to (bit_and sh.states there)
 
-abbrev pub targets_of : Image → ℕ → Shape → Instr → List ℕ
+abbrev pub targets_of : Image → ℕ → AbstractState → Instr → List ℕ
 targets_of p place sh i = targets_by place sh (ways_of p i)
 
 -- the most over the places that are not past the region
@@ -122,7 +122,7 @@ after_in after (Round first last) = at 0 after first
 -- a reached place of a body goes out to a place from which the method costs so much
 pub record ExitsAt (p : Image) (m : ℕ) (s : Shapes) (from : List ℕ) (first last place n : ℕ) : Type 0 where
   pub inside : IsIn first last place
-  pub shape : Shape
+  pub shape : AbstractState
   pub there : at None s place ≡ Some shape
   pub instr : Instr
   pub stands : instr_at p m place ≡ Some instr
@@ -140,7 +140,7 @@ abbrev pub found_by : List ℕ → List ℕ → Found
 found_by from after = record { from = from; after = after }
 
 -- what a method costs from a plain instruction on, with the dearest way
-abbrev pub plain_cost : Image → (m : ℕ) → List ℕ → Found → Region → ℕ → Shape → Instr → ℕ
+abbrev pub plain_cost : Image → (m : ℕ) → List ℕ → Found → Region → ℕ → AbstractState → Instr → ℕ
 plain_cost p m prices found r place sh i = kept (own_by p m prices sh i + max (after_in found.after r) (most_to found.from r (targets_of p place sh i)))
 
 -- the most that follows a loop: so much after the one round it, or what its body goes out to
@@ -152,10 +152,10 @@ pub record Follows (p : Image) (m : ℕ) (s : Shapes) (from : List ℕ) (outside
 -- ---- the pass
 
 -- tables that say what the pass has found down to a place, and what was found of the lower methods
-pub record Agrees (p : Image) (prices : List ℕ) (m : ℕ) (s : Shapes) (down : ℕ) (found : Found) (t : Typing) (c : Prices) (a : Afters) : Type 0 where
+pub record Agrees (p : Image) (prices : List ℕ) (m : ℕ) (s : Shapes) (down : ℕ) (found : Found) (t : Typing) (c : Prices) (a : LoopExits) : Type 0 where
   pub states : at [] t m ≡ s
-  pub froms : (place : ℕ) → down ≤ place → c.from m place ≡ at 0 found.from place
-  pub afters : (from to d n : ℕ) → down ≤ to → Body p m from to d n → a m from ≡ at 0 found.after from
+  pub from_costs : (place : ℕ) → down ≤ place → c.from m place ≡ at 0 found.from place
+  pub loop_exits : (from to d n : ℕ) → down ≤ to → Body p m from to d n → a m from ≡ at 0 found.after from
   pub rounds : (from : ℕ) → c.round m from ≡ c.from m (suc from) - a m from
   pub lower : (k : ℕ) → k < m → price c k ≡ at 0 prices k
   pub classes : (x : Thing) → c.destruction x ≡ kept (all_going p (destructor_price c) x)
@@ -164,8 +164,8 @@ pub record Agrees (p : Image) (prices : List ℕ) (m : ℕ) (s : Shapes) (down :
 pub record IsPassed (p : Image) (prices : List ℕ) (m : ℕ) (s : Shapes) (down : ℕ) (found : Found) : Type 0 where
   -- what follows a region is found at each reached place of it too
   pub around : (from to d n : ℕ) (r : Region) → down ≤ to → Body p m from to d n → IsInnermost p m from r → after_in found.after r ≤ at 0 found.after from
-  pub covers : (place : ℕ) (sh : Shape) (r : Region) → down ≤ place → at None s place ≡ Some sh → IsInnermost p m place r → after_in found.after r ≤ at 0 found.from place
-  pub swept : (t : Typing) (c : Prices) (a : Afters) → Agrees p prices m s down found t c a → IsSweptFrom kept p t c a m down
+  pub covers : (place : ℕ) (sh : AbstractState) (r : Region) → down ≤ place → at None s place ≡ Some sh → IsInnermost p m place r → after_in found.after r ≤ at 0 found.from place
+  pub swept : (t : Typing) (c : Prices) (a : LoopExits) → Agrees p prices m s down found t c a → IsSweptFrom kept p t c a m down
 
 -- the innermost loop round a place, as the pass keeps it
 abbrev pub region_of : Option rounds.Round → Region
@@ -193,7 +193,7 @@ pub record IsMethodPriced (p : Image) (prices : List ℕ) (m n : ℕ) : Type 0 w
   pub strongest : IsMethodStrongest p m states
   pub found : Found
   pub is : at 0 found.from 0 ≡ n
-  pub swept : (t : Typing) (c : Prices) (a : Afters) → Agrees p prices m states 0 found t c a → IsSweptFrom kept p t c a m 0
+  pub swept : (t : Typing) (c : Prices) (a : LoopExits) → Agrees p prices m states 0 found t c a → IsSweptFrom kept p t c a m 0
 
 pub record ArePricedBelow (p : Image) (count : ℕ) (prices : List ℕ) : Type 0 where
   pub size : length prices ≡ length p.methods
@@ -205,7 +205,7 @@ pub record ArePriced (p : Image) (prices : List ℕ) : Type 0 where
   pub typing : Typing
   pub strongest : IsStrongest p typing
   pub table : Prices
-  pub told : ArePricesUpTo 4294967296 p typing table
+  pub reported : ArePricesUpTo 4294967296 p typing table
   pub is : (m : ℕ) → IsSome (method_at p m) → price table m ≡ at 0 prices m
 
 -- the number is a method's price by the strongest typing, or 2^32 where that is more

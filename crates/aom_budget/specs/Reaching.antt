@@ -2,9 +2,9 @@
 use Rattle.std.specs.Prelude.{◌≡◌, length}
 use Rattle.aom_image.specs.Image.{Image}
 use Rattle.aom_budget.specs.Greatest.{IsCalled, IsCancelled, IsGone}
-use Rattle.aom_budget.specs.declared.finder.Finder as finders
+use Rattle.aom_budget.specs.declared.finder.DepthSearch as finders
 
-pub record AreReached (p : Image) (f : finders.Finder) : Type 0 where
+pub record AreReached (p : Image) (f : finders.DepthSearch) : Type 0 where
   pub deep : length f.depths ≡ length p.methods
   pub high : length f.heights ≡ length p.methods
   pub called : IsCalled p f.depths f.called

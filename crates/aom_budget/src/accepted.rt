@@ -1,13 +1,13 @@
 //! Accepted images.
 ghost use Rattle.std.specs.Prelude.{◌≡◌, IfOk, IfErr, IsSome};
 ghost use Rattle.aom_image.specs.Views.{method_at};
-ghost use Rattle.aom_classes.specs.Linked.{IsLinked};
-ghost use Rattle.aom_rules.specs.Typing.{Typing, IsTyped};
-ghost use Rattle.aom_typings.specs.Strongest.{IsStrongest};
-ghost use Rattle.aom_typings.specs.Depths.{HasDepths, DepthsWithin};
-ghost use Rattle.aom_typings.specs.Heights.{HasHeights, HeightsWithin};
-ghost use Rattle.aom_typings.specs.Dispatches.{IsAffordable};
-ghost use Rattle.aom_typings.specs.Prices.{Prices};
+ghost use Rattle.aom_link_conditions.specs.Linked.{IsLinked};
+ghost use Rattle.aom_typing_rules.specs.Typing.{Typing, IsTyped};
+ghost use Rattle.aom_static_bounds.specs.Strongest.{IsStrongest};
+ghost use Rattle.aom_static_bounds.specs.Depths.{HasDepths, DepthsWithin};
+ghost use Rattle.aom_static_bounds.specs.Heights.{HasHeights, HeightsWithin};
+ghost use Rattle.aom_static_bounds.specs.Dispatches.{IsAffordable};
+ghost use Rattle.aom_static_bounds.specs.Prices.{Prices};
 ghost use Rattle.aom_budget.specs.Budgets.{BudgetsWithin, CostsWithin};
 ghost use Rattle.aom_budget.specs.Pricing.{IsPriceUpTo};
 ghost use Rattle.aom_budget.specs.Faults.{RefusesOrWants};
@@ -15,7 +15,7 @@ ghost use Rattle.aom_budget.specs.Figures.{AreFigures};
 
 use crate::{BudgetFault, Figures};
 use aom_image::MethodNumber;
-use aom_linked::Linked;
+use aom_linker::Linked;
 use aom_verify::Checked;
 use std::alloc::Global;
 use std::marker::Model;
@@ -29,8 +29,8 @@ pub struct Accepted {
 
 impl Model for Accepted {
     ghost use Rattle.aom_image.specs.Image.{Image};
-    ghost use Rattle.aom_typings.specs.Depths.{HasDepths};
-    ghost use Rattle.aom_typings.specs.Heights.{HasHeights};
+    ghost use Rattle.aom_static_bounds.specs.Depths.{HasDepths};
+    ghost use Rattle.aom_static_bounds.specs.Heights.{HasHeights};
     ghost use Rattle.aom_budget.specs.Budgets.{BudgetsWithin};
     ghost use Rattle.aom_budget.specs.Figures.{AreFigures};
 

@@ -1,11 +1,11 @@
 //! The class by which an instruction may call something.
 ghost use Rattle.std.specs.Prelude.{◌≡◌};
-ghost use Rattle.aom_typings.specs.Calls.{thing_class, object_class};
+ghost use Rattle.aom_static_bounds.specs.Calls.{thing_class, object_class};
 ghost use Rattle.aom_image.specs.Views.{method_class};
 
+use aom_abstract_state::Kind;
 use aom_image::{ClassNumber, MethodNumber, Thing};
-use aom_linked::Linked;
-use aom_shape::Kind;
+use aom_linker::Linked;
 
 fn thing_class(thing: Thing) -> Option<ClassNumber>
     ensures { result ≡ thing_class thing }

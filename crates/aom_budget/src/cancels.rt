@@ -1,6 +1,6 @@
 //! What the cancel methods of what may stand for a class come to.
 ghost use Rattle.std.specs.Prelude.{◌≡◌, ◌≤◌, ℕ, Some, length};
-ghost use Rattle.aom_typings.specs.Calls.{cancels};
+ghost use Rattle.aom_static_bounds.specs.Calls.{cancels};
 ghost use Rattle.aom_roles.specs.Tables.{at};
 ghost use Rattle.aom_budget.specs.Greatest.{most_at, IsCancelled};
 
@@ -9,7 +9,7 @@ use crate::raising::raise_class;
 use crate::sums::Sums;
 use crate::table::{Table, class_number};
 use aom_image::Role;
-use aom_linked::Linked;
+use aom_linker::Linked;
 
 /// Raises what a table says of each class to what its cancel methods cost now.
 pub(crate) fn raise_cancel_costs(linked: &Linked, prices: &Sums, table: &mut Sums)

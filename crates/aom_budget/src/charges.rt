@@ -1,6 +1,6 @@
 //! What an instruction sets going: what it is charged for, and what it may call.
 ghost use Rattle.std.specs.Prelude.{◌≡◌};
-ghost use Rattle.aom_typings.specs.Charges.{charge_of};
+ghost use Rattle.aom_static_bounds.specs.Charges.{charge_of};
 ghost use Rattle.aom_budget.specs.Charging.{charge_said};
 
 use aom_image::{Instr, MethodNumber, Register};

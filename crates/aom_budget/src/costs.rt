@@ -2,7 +2,7 @@
 ghost use Rattle.std.specs.Prelude.{◌≡◌, ◌≤◌, ℕ, length, replicate, slice_set, IfOk, IsSome};
 ghost use Rattle.aom_image.specs.Image.{Image as ImageRecord};
 ghost use Rattle.aom_image.specs.Views.{method_at};
-ghost use Rattle.aom_typings.specs.Most.{most_run};
+ghost use Rattle.aom_static_bounds.specs.Most.{most_run};
 ghost use Rattle.aom_roles.specs.Tables.{at};
 ghost use Rattle.aom_budget.specs.Costing.{AreCosts};
 ghost use Rattle.aom_budget.specs.Charging.{charge_said};
@@ -14,10 +14,10 @@ use crate::charges::Charge;
 use crate::destructions::raise_destroyed;
 use crate::raising::raise_called;
 use crate::sums::Sums;
+use aom_abstract_state::Kind;
 use aom_image::{ClassNumber, Instr, MethodNumber, Role, Thing};
-use aom_linked::Linked;
-use aom_shape::Kind;
-use aom_verify::ShapeView;
+use aom_linker::Linked;
+use aom_verify::AbstractStateView;
 use std::alloc::{AllocError, Global};
 
 #[derive(Drop)]
@@ -118,7 +118,7 @@ impl Costs {
         &self,
         linked: &Linked,
         method: MethodNumber,
-        shape: &ShapeView<'_>,
+        shape: &AbstractStateView<'_>,
         charge: Charge,
     ) -> u64
         requires { AreCosts linked.now self.now }
@@ -139,7 +139,7 @@ impl Costs {
         &self,
         linked: &Linked,
         method: MethodNumber,
-        shape: &ShapeView<'_>,
+        shape: &AbstractStateView<'_>,
         instr: &Instr,
     ) -> u64
         requires { AreCosts linked.now self.now }

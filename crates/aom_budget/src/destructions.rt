@@ -3,8 +3,8 @@ ghost use Rattle.std.specs.Prelude.{◌≡◌, ◌≤◌, ◌*◌, ℕ, cond, le
 ghost use Rattle.aom_image.specs.declared.method.Thing.TheVariants.{Object};
 ghost use Rattle.aom_roles.specs.Classes.{kind_at};
 ghost use Rattle.aom_roles.specs.Families.{descends};
-ghost use Rattle.aom_typings.specs.Prices.{kind_sessions, perhaps_sessions};
-ghost use Rattle.aom_typings.specs.Sweeping.{going, whole_going};
+ghost use Rattle.aom_static_bounds.specs.Prices.{kind_sessions, perhaps_sessions};
+ghost use Rattle.aom_static_bounds.specs.Sweeping.{going, whole_going};
 ghost use Rattle.aom_roles.specs.Tables.{at};
 ghost use Rattle.aom_budget.specs.Costing.{IsDestroyed};
 ghost use Rattle.aom_budget.specs.Pricing.{destruction_by, kept, price_by};
@@ -14,7 +14,7 @@ use crate::raising::raise_class;
 use crate::sums::{Sums, kept};
 use crate::table::class_number;
 use aom_image::{ClassKind, ClassNumber, Thing};
-use aom_linked::Linked;
+use aom_linker::Linked;
 use aom_roles::descends;
 
 /// What the going of an object costs: a step, and the destructors of its line.

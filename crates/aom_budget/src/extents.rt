@@ -1,10 +1,10 @@
 //! How many frames the methods may come to, and how many cleanup entries.
 ghost use Rattle.std.specs.Prelude.{◌≡◌, length, IfOk, IfErr};
 ghost use Rattle.aom_roles.specs.Tables.{at};
-ghost use Rattle.aom_typings.specs.Depths.{HasDepths};
-ghost use Rattle.aom_typings.specs.Heights.{HasHeights};
+ghost use Rattle.aom_static_bounds.specs.Depths.{HasDepths};
+ghost use Rattle.aom_static_bounds.specs.Heights.{HasHeights};
 ghost use Rattle.aom_budget.specs.Budgets.{BudgetsWithin};
-ghost use Rattle.aom_budget.specs.Extents.{AreFilled};
+ghost use Rattle.aom_budget.specs.StackDepths.{AreFilled};
 ghost use Rattle.aom_budget.specs.Faults.{Refuses};
 
 use crate::BudgetFault;
@@ -13,19 +13,19 @@ use aom_image::MethodNumber;
 use aom_verify::Checked;
 
 /// How many frames a method may come to.
-pub(crate) const MOST_FRAMES: u16 = 256;
+pub(crate) const MAX_FRAMES: u16 = 256;
 
 /// How many cleanup entries a method may come to.
-pub(crate) const MOST_ENTRIES: u16 = 1024;
+pub(crate) const MAX_ENTRIES: u16 = 1024;
 
 /// By the numbers of the methods.
 #[derive(Drop)]
-pub(crate) struct Extents {
+pub(crate) struct StackDepths {
     pub(crate) depths: Table,
     pub(crate) heights: Table,
 }
 
-impl Extents {
+impl StackDepths {
     /// How many frames a method may come to.
     pub(crate) fn frames(&self, method: MethodNumber) -> u16
         ensures { result ≡ at 0 self.now.depths method }
@@ -51,10 +51,10 @@ impl Extents {
     {
         checked.linked().facts();
         checked.typed();
-        if !self.depths.keeps_to(MOST_FRAMES) {
+        if !self.depths.keeps_to(MAX_FRAMES) {
             return Err(BudgetFault::TooDeep);
         }
-        if !self.heights.keeps_to(MOST_ENTRIES) {
+        if !self.heights.keeps_to(MAX_ENTRIES) {
             return Err(BudgetFault::CleanupTooDeep);
         }
         Ok(())

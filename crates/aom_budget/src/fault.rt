@@ -9,21 +9,21 @@ use thiserror::Error;
 
 /// Whose dispatches an image declares a budget of: main, or the objects of an active class or of a server's.
 #[derive(Clone, Copy, PartialEq, Eq, Debug)]
-pub enum Payer {
+pub enum BudgetOwner {
     Main,
     Class(ClassNumber),
 }
 
-impl fmt::Display for Payer {
+impl fmt::Display for BudgetOwner {
     ghost use Rattle.std.specs.Prelude.{Some};
-    ghost use Rattle.aom_budget.specs.Faults.{payer_text};
+    ghost use Rattle.aom_budget.specs.Faults.{budget_owner_text};
 
-    ghost output = { λ p. Some (payer_text p) };
+    ghost output = { λ p. Some (budget_owner_text p) };
 
     fn fmt<W: fmt::Write>(&self, f: &mut fmt::Formatter<W>) -> fmt::Result {
         match *self {
-            Payer::Main => write!(f, "main"),
-            Payer::Class(class) => {
+            BudgetOwner::Main => write!(f, "main"),
+            BudgetOwner::Class(class) => {
                 let class = class.number();
                 write!(f, "class {class}")
             }
@@ -35,9 +35,9 @@ impl fmt::Display for Payer {
 #[derive(Clone, Copy, PartialEq, Eq, Debug, Error)]
 pub enum BudgetFault {
     /// A dispatch may take more steps than the image declares of it. A price of 2^32 stands for all that is more.
-    #[error("budget 1 {payer} price {price} declared {declared}")]
+    #[error("budget 1 {budget_owner} price {price} declared {declared}")]
     OverBudget {
-        payer: Payer,
+        budget_owner: BudgetOwner,
         price: u64,
         declared: u32,
     },

@@ -2,20 +2,20 @@
 ghost use Rattle.std.specs.Prelude.{◌≡◌, ◌≤◌, ◌<◌, length, IfOk, IfErr, IsSome};
 ghost use Rattle.aom_image.specs.Views.{class_at};
 ghost use Rattle.aom_roles.specs.Tables.{at};
-ghost use Rattle.aom_typings.specs.Depths.{HasDepths};
-ghost use Rattle.aom_typings.specs.Heights.{HasHeights};
+ghost use Rattle.aom_static_bounds.specs.Depths.{HasDepths};
+ghost use Rattle.aom_static_bounds.specs.Heights.{HasHeights};
 ghost use Rattle.aom_budget.specs.Budgets.{BudgetsWithin, budget_of};
 ghost use Rattle.aom_budget.specs.Faults.{Refuses};
-ghost use Rattle.aom_budget.specs.Figures.{AreFigures, class_by, ClassesWithin, kind_by, main_by, TellsFirst};
+ghost use Rattle.aom_budget.specs.Figures.{AreFigures, class_by, ClassesWithin, kind_by, main_by, ReportsFirst};
 
-use crate::extents::Extents;
+use crate::extents::StackDepths;
 use crate::finder::extents_of;
 use crate::prices::{kind_price, main_price, prices_of};
 use crate::sums::Sums;
 use crate::table::class_number;
-use crate::{BudgetFault, Payer};
+use crate::{BudgetFault, BudgetOwner};
 use aom_image::{ClassDecl, ClassKind, ClassNumber, MethodNumber};
-use aom_linked::Linked;
+use aom_linker::Linked;
 use aom_verify::Checked;
 use std::alloc::{AllocError, Global};
 use std::marker::Model;
@@ -31,13 +31,13 @@ pub fn budget_of(class: &ClassDecl) -> Option<u32>
 }
 
 /// Whether a dispatch costs no more than is declared of it.
-fn within(payer: Payer, price: u64, declared: u32) -> Result<(), BudgetFault>
+fn within(budget_owner: BudgetOwner, price: u64, declared: u32) -> Result<(), BudgetFault>
     ensures ok { IfOk result (λ _. price ≤ declared) }
-    ensures err { IfErr result (λ fault. (declared < price) × (fault ≡ BudgetFault.OverBudget payer price declared)) }
+    ensures err { IfErr result (λ fault. (declared < price) × (fault ≡ BudgetFault.OverBudget budget_owner price declared)) }
 {
     if price > u64::from(declared) {
         return Err(BudgetFault::OverBudget {
-            payer,
+            budget_owner,
             price,
             declared,
         });
@@ -48,7 +48,7 @@ fn within(payer: Payer, price: u64, declared: u32) -> Result<(), BudgetFault>
 /// What the methods of a checked image come to, and what they cost, by their numbers.
 #[derive(Drop)]
 pub struct Figures {
-    extents: Extents,
+    extents: StackDepths,
     prices: Sums,
 }
 
@@ -116,14 +116,14 @@ impl Figures {
     /// Whether the classes keep within what they declare, the lowest number first.
     fn keep_classes(&self, linked: &Linked) -> Result<(), BudgetFault>
         ensures ok { IfOk result (λ _. ClassesWithin linked.now self.now.prices (length linked.now.classes)) }
-        ensures err { IfErr result (λ fault. TellsFirst linked.now self.now.prices fault) }
+        ensures err { IfErr result (λ fault. ReportsFirst linked.now self.now.prices fault) }
     {
         let classes = linked.image().classes();
         for index in 0..classes.len() {
             let class = class_number(index);
             if let Some(declared) = budget_of(linked.class(class)) {
                 let price = self.class_price(linked, class);
-                within(Payer::Class(class), price, declared)?;
+                within(BudgetOwner::Class(class), price, declared)?;
             }
         }
         Ok(())
@@ -141,7 +141,7 @@ impl Figures {
         let linked = checked.linked();
         linked.facts();
         let declared = linked.image().header().budget;
-        within(Payer::Main, self.main_price(linked), declared)?;
+        within(BudgetOwner::Main, self.main_price(linked), declared)?;
         self.keep_classes(linked)?;
         self.extents.keep(checked)
     }

@@ -2,12 +2,12 @@
 ghost use Rattle.std.specs.Prelude.{◌≡◌, ◌+◌, ◌<◌, ◌≤◌, suc, min, max, length, replicate, slice_set, IfOk, IsSome};
 ghost use Rattle.aom_image.specs.Views.{method_at};
 ghost use Rattle.aom_roles.specs.Tables.{at};
-ghost use Rattle.aom_typings.specs.Strongest.{IsMethodStrongest};
-ghost use Rattle.aom_typings.specs.Calls.{called_for, callees};
-ghost use Rattle.aom_typings.specs.Depths.{Frames};
-ghost use Rattle.aom_typings.specs.Heights.{Heights};
+ghost use Rattle.aom_static_bounds.specs.Strongest.{IsMethodStrongest};
+ghost use Rattle.aom_static_bounds.specs.Calls.{called_for, callees};
+ghost use Rattle.aom_static_bounds.specs.Depths.{Frames};
+ghost use Rattle.aom_static_bounds.specs.Heights.{Heights};
 ghost use Rattle.aom_budget.specs.Charging.{charge_said};
-ghost use Rattle.aom_budget.specs.Extents.{IsMost, entered, entered_for, FramesAt, EntriesAt, AreFilled};
+ghost use Rattle.aom_budget.specs.StackDepths.{IsMost, entered, entered_for, FramesAt, EntriesAt, AreFilled};
 ghost use Rattle.aom_budget.specs.Greatest.{most_at};
 ghost use Rattle.aom_budget.specs.Pricing.{price_by};
 ghost use Rattle.aom_budget.specs.Reaching.{AreReached};
@@ -15,39 +15,39 @@ ghost use Rattle.aom_budget.specs.Reaching.{AreReached};
 use crate::callees::{class_of, object_class};
 use crate::cancels::raise_cancel_depths;
 use crate::charges::Charge;
-use crate::extents::{Extents, MOST_ENTRIES, MOST_FRAMES};
-use crate::lines::raise_gone;
+use crate::extents::{MAX_ENTRIES, MAX_FRAMES, StackDepths};
+use crate::lines::raise_destruction;
 use crate::raising::raise_called;
 use crate::sums::Sums;
 use crate::table::{Table, number_at};
 use aom_image::{ClassNumber, Instr, MethodNumber, Role};
-use aom_linked::Linked;
-use aom_verify::{Checked, ShapeView, Sheet};
+use aom_linker::Linked;
+use aom_verify::{AbstractStateView, Checked, StateTable};
 use std::alloc::{AllocError, Global};
 
 /// How many frames, and how many cleanup entries. One more than the most stands for all that are too many.
 #[derive(Clone, Copy)]
-struct Extent {
+struct StackDepth {
     depth: u16,
     height: u16,
 }
 
-impl Extent {
-    fn none() -> Extent
+impl StackDepth {
+    fn none() -> StackDepth
         ensures depth { result.depth ≡ 0 }
         ensures height { result.height ≡ 0 }
     {
-        Extent {
+        StackDepth {
             depth: 0,
             height: 0,
         }
     }
 
-    fn larger(self, other: Extent) -> Extent
+    fn larger(self, other: StackDepth) -> StackDepth
         ensures depth { result.depth ≡ max self.depth other.depth }
         ensures height { result.height ≡ max self.height other.height }
     {
-        Extent {
+        StackDepth {
             depth: self.depth.max(other.depth),
             height: self.height.max(other.height),
         }
@@ -76,7 +76,7 @@ fn of_class(table: &Sums, class: Option<ClassNumber>) -> u64
 
 /// What was found of the methods, and what that makes of a call, a cancel and a destruction: the most over all that may run.
 #[derive(Drop)]
-struct Finder {
+struct DepthSearch {
     depths: Table,
     heights: Table,
     /// By method, how deep it goes and all that override it.
@@ -89,9 +89,9 @@ struct Finder {
     gone: Sums,
 }
 
-impl Finder {
+impl DepthSearch {
     /// Nothing is known of any method yet.
-    fn new(alloc: Global, linked: &Linked) -> Result<Finder, AllocError>
+    fn new(alloc: Global, linked: &Linked) -> Result<DepthSearch, AllocError>
         ensures filled { IfOk result (λ f. AreFilled linked.now 0 f.depths f.heights) }
         ensures reached { IfOk result (λ f. AreReached linked.now f) }
     {
@@ -103,7 +103,7 @@ impl Finder {
         let entered = Sums::new(alloc, methods)?;
         let cancelled = Sums::new(alloc, classes)?;
         let gone = Sums::new(alloc, classes)?;
-        Ok(Finder {
+        Ok(DepthSearch {
             depths,
             heights,
             called,
@@ -118,7 +118,7 @@ impl Finder {
         &self,
         linked: &Linked,
         method: MethodNumber,
-        shape: &ShapeView<'_>,
+        shape: &AbstractStateView<'_>,
         charge: Charge,
     ) -> u64
         requires { AreReached linked.now self.now }
@@ -153,7 +153,7 @@ impl Finder {
         &self,
         linked: &Linked,
         method: MethodNumber,
-        shape: &ShapeView<'_>,
+        shape: &AbstractStateView<'_>,
         instr: &Instr,
     ) -> u16
         requires { AreReached linked.now self.now }
@@ -162,37 +162,43 @@ impl Finder {
         joined(
             1,
             self.most_called(linked, method, shape, Charge::of(instr)),
-            MOST_FRAMES + 1,
+            MAX_FRAMES + 1,
         )
     }
 
     /// One's own entries, with the most of what may be entered.
-    fn height_at(&self, linked: &Linked, shape: &ShapeView<'_>, instr: &Instr) -> u16
+    fn height_at(&self, linked: &Linked, shape: &AbstractStateView<'_>, instr: &Instr) -> u16
         requires { AreReached linked.now self.now }
         ensures { result ≡ min (length shape.now.entries + most_at self.now.heights (entered linked.now instr.now)) 1025 }
     {
         joined(
             shape.height(),
             self.most_entered(linked, Charge::of(instr)),
-            MOST_ENTRIES + 1,
+            MAX_ENTRIES + 1,
         )
     }
 
     /// What a place comes to: nothing where it is not reached.
-    fn of_place(&self, linked: &Linked, method: MethodNumber, sheet: &Sheet, place: usize) -> Extent
+    fn of_place(
+        &self,
+        linked: &Linked,
+        method: MethodNumber,
+        state_table: &StateTable,
+        place: usize,
+    ) -> StackDepth
         requires filled { AreFilled linked.now method self.now.depths self.now.heights }
         requires reached { AreReached linked.now self.now }
-        requires strongest { IsMethodStrongest linked.now method sheet.now }
-        requires place { place < length sheet.now }
-        ensures depth { IsMost 257 (FramesAt linked.now method sheet.now place) result.depth }
-        ensures height { IsMost 1025 (EntriesAt linked.now method sheet.now place) result.height }
+        requires strongest { IsMethodStrongest linked.now method state_table.now }
+        requires place { place < length state_table.now }
+        ensures depth { IsMost 257 (FramesAt linked.now method state_table.now place) result.depth }
+        ensures height { IsMost 1025 (EntriesAt linked.now method state_table.now place) result.height }
     {
         linked.facts();
-        match sheet.view(place) {
-            None => Extent::none(),
+        match state_table.view(place) {
+            None => StackDepth::none(),
             Some(shape) => {
                 let instr = linked.instr(method, place);
-                Extent {
+                StackDepth {
                     depth: self.depth_at(linked, method, &shape, &instr),
                     height: self.height_at(linked, &shape, &instr),
                 }
@@ -201,24 +207,29 @@ impl Finder {
     }
 
     /// The most that a place of the method comes to.
-    fn of_method(&self, linked: &Linked, method: MethodNumber, sheet: &Sheet) -> Extent
+    fn of_method(
+        &self,
+        linked: &Linked,
+        method: MethodNumber,
+        state_table: &StateTable,
+    ) -> StackDepth
         requires filled { AreFilled linked.now method self.now.depths self.now.heights }
         requires reached { AreReached linked.now self.now }
-        requires strongest { IsMethodStrongest linked.now method sheet.now }
+        requires strongest { IsMethodStrongest linked.now method state_table.now }
         ensures depth { IsMost 257 (Frames linked.now method) result.depth }
         ensures height { IsMost 1025 (Heights linked.now method) result.height }
     {
         linked.facts();
-        let mut most = Extent::none();
-        for place in 0..sheet.len() {
-            most = most.larger(self.of_place(linked, method, sheet, place));
+        let mut most = StackDepth::none();
+        for place in 0..state_table.len() {
+            most = most.larger(self.of_place(linked, method, state_table, place));
         }
         most
     }
 
     /// Keeps what a method comes to, and raises what it counts for. A call of its own, so that the loop over places stays small.
     #[inline(never)]
-    fn set(&mut self, linked: &Linked, method: MethodNumber, extent: Extent)
+    fn set(&mut self, linked: &Linked, method: MethodNumber, extent: StackDepth)
         requires reached { AreReached linked.now self.old }
         requires method { IsSome (method_at linked.now method) }
         requires shallow { at 0 self.old.depths method ≡ 0 }
@@ -234,7 +245,7 @@ impl Finder {
         raise_called(image, &mut self.called, method, u64::from(extent.depth));
         raise_called(image, &mut self.entered, method, u64::from(extent.height));
         match linked.method(method).role {
-            Role::Destruct => raise_gone(linked, &self.depths, &mut self.gone),
+            Role::Destruct => raise_destruction(linked, &self.depths, &mut self.gone),
             Role::Cancel => raise_cancel_depths(linked, &self.depths, &mut self.cancelled),
             _ => {}
         }
@@ -249,7 +260,7 @@ impl Finder {
         ensures reached { AreReached checked.now self.new }
     {
         let linked = checked.linked();
-        let extent = self.of_method(linked, method, checked.sheet(method));
+        let extent = self.of_method(linked, method, checked.state_table(method));
         self.set(linked, method, extent);
     }
 
@@ -267,15 +278,15 @@ impl Finder {
 }
 
 /// The extents of a checked image. One more than may be stands for all that is too many.
-pub(crate) fn extents_of(alloc: Global, checked: &Checked) -> Result<Extents, AllocError>
+pub(crate) fn extents_of(alloc: Global, checked: &Checked) -> Result<StackDepths, AllocError>
     ensures { IfOk result (λ e. AreFilled checked.now (length checked.now.methods) e.depths e.heights) }
 {
-    let mut finder = Finder::new(alloc, checked.linked())?;
+    let mut finder = DepthSearch::new(alloc, checked.linked())?;
     finder.find_all(checked);
-    let Finder {
+    let DepthSearch {
         depths,
         heights,
         ..
     } = finder;
-    Ok(Extents { depths, heights })
+    Ok(StackDepths { depths, heights })
 }

@@ -25,5 +25,5 @@ mod table;
 mod targets;
 
 pub use accepted::{Accepted, accept};
-pub use fault::{BudgetFault, Payer};
+pub use fault::{BudgetFault, BudgetOwner};
 pub use figures::{Figures, budget_of};

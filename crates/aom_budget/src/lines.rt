@@ -3,9 +3,9 @@ ghost use Rattle.std.specs.Prelude.{◌≡◌, ◌≤◌, ◌++◌, ℕ, Some, l
 ghost use Rattle.aom_image.specs.declared.method.Role.TheVariants.{Destruct};
 ghost use Rattle.aom_image.specs.declared.method.Thing.TheVariants.{Object};
 ghost use Rattle.aom_roles.specs.Classes.{sessions_at};
-ghost use Rattle.aom_classes.specs.Roles.{own_role};
-ghost use Rattle.aom_typings.specs.Calls.{destructors, lines_of};
-ghost use Rattle.aom_typings.specs.Most.{line};
+ghost use Rattle.aom_link_conditions.specs.Roles.{own_role};
+ghost use Rattle.aom_static_bounds.specs.Calls.{destructors, lines_of};
+ghost use Rattle.aom_static_bounds.specs.Most.{line};
 ghost use Rattle.aom_roles.specs.Tables.{at};
 ghost use Rattle.aom_budget.specs.Greatest.{most_at, IsGone};
 ghost use Rattle.aom_budget.specs.Pricing.{kept, price_by};
@@ -15,7 +15,7 @@ use crate::raising::raise_class;
 use crate::sums::{Sums, kept};
 use crate::table::{Table, class_number};
 use aom_image::{ClassNumber, MethodNumber, Role};
-use aom_linked::Linked;
+use aom_linker::Linked;
 use aom_roles::{parent_of, sessions_at};
 
 /// The destructor that a class has itself.
@@ -81,7 +81,7 @@ fn going_depth(linked: &Linked, depths: &Table, class: ClassNumber) -> u16
 }
 
 /// Raises what a table says of each class to how deep the lines of what may stand for it go now.
-pub(crate) fn raise_gone(linked: &Linked, depths: &Table, table: &mut Sums)
+pub(crate) fn raise_destruction(linked: &Linked, depths: &Table, table: &mut Sums)
     requires size { length table.old ≡ length linked.now.classes }
     requires below { (c : ℕ) → at 0 table.old c ≤ most_at depths.now (destructors linked.now (Some c)) }
     ensures { IsGone linked.now depths.now table.new }

@@ -1,13 +1,13 @@
 //! One pass over the places of a method, the last one first: what the method costs from each of them.
 ghost use Rattle.std.specs.Prelude.{◌≡◌, ◌≢◌, ◌≤◌, ◌<◌, ◌+◌, ◌-◌, ◌*◌, ◌^◌, ◌++◌, ℕ, suc, max, length, replicate, slice_set, Some, None, IfOk, IsSome};
 ghost use Rattle.aom_image.specs.Views.{method_at};
-ghost use Rattle.aom_classes.specs.Bodies.{IsIn};
-ghost use Rattle.aom_shape.specs.Shape.{Shape};
+ghost use Rattle.aom_link_conditions.specs.Bodies.{IsIn};
+ghost use Rattle.aom_abstract_state.specs.AbstractState.{AbstractState};
 ghost use Rattle.aom_roles.specs.Tables.{at};
-ghost use Rattle.aom_typings.specs.Strongest.{IsMethodStrongest};
-ghost use Rattle.aom_typings.specs.Calls.{listed};
+ghost use Rattle.aom_static_bounds.specs.Strongest.{IsMethodStrongest};
+ghost use Rattle.aom_static_bounds.specs.Calls.{listed};
 ghost use Rattle.aom_verify.specs.Sweep.{HasPlaces};
-ghost use Rattle.aom_budget.specs.Extents.{IsMost, Before};
+ghost use Rattle.aom_budget.specs.StackDepths.{IsMost, Before};
 ghost use Rattle.aom_budget.specs.Costing.{AreCosts};
 ghost use Rattle.aom_budget.specs.Pricing.{kept, after_in, most_to, most_past, ExitsAt, Follows, IsPassing, IsMethodPriced, found_by, plain_cost, region_of};
 
@@ -16,8 +16,8 @@ use crate::sums::{Sums, kept};
 use crate::targets::Targets;
 use aom_image::{Instr, MethodNumber};
 use aom_instructions::Transfer;
-use aom_linked::Linked;
-use aom_verify::{Checked, Sheet};
+use aom_linker::Linked;
+use aom_verify::{Checked, StateTable};
 use std::alloc::{AllocError, Global};
 
 /// A loop's place, and that of the next that closes it.
@@ -118,17 +118,17 @@ impl Pass {
         &self,
         linked: &Linked,
         method: MethodNumber,
-        sheet: &Sheet,
+        state_table: &StateTable,
         round: Round,
         place: usize,
     ) -> u64
-        requires strongest { IsMethodStrongest linked.now method sheet.now }
+        requires strongest { IsMethodStrongest linked.now method state_table.now }
         requires inside { IsIn round.first round.last place }
         requires place { suc place < 2 ^ 64 }
-        ensures is { IsMost 4294967296 (ExitsAt linked.now method sheet.now self.now.from round.first round.last place) result }
+        ensures is { IsMost 4294967296 (ExitsAt linked.now method state_table.now self.now.from round.first round.last place) result }
         ensures low { result ≤ 4294967296 }
     {
-        match sheet.view(place) {
+        match state_table.view(place) {
             None => 0,
             Some(shape) => {
                 let instr = linked.instr(method, place);
@@ -138,30 +138,42 @@ impl Pass {
     }
 
     /// The most that the places of a body go out to.
-    fn exits_of(&self, linked: &Linked, method: MethodNumber, sheet: &Sheet, round: Round) -> u64
-        requires strongest { IsMethodStrongest linked.now method sheet.now }
+    fn exits_of(
+        &self,
+        linked: &Linked,
+        method: MethodNumber,
+        state_table: &StateTable,
+        round: Round,
+    ) -> u64
+        requires strongest { IsMethodStrongest linked.now method state_table.now }
         requires order { round.first < round.last }
         requires last { suc round.last < 2 ^ 64 }
-        ensures is { IsMost 4294967296 (Before (ExitsAt linked.now method sheet.now self.now.from round.first round.last) (suc round.last)) result }
+        ensures is { IsMost 4294967296 (Before (ExitsAt linked.now method state_table.now self.now.from round.first round.last) (suc round.last)) result }
         ensures low { result ≤ 4294967296 }
     {
         let mut most = 0;
         for place in round.first + 1..round.last + 1 {
-            most = most.max(self.exit_at(linked, method, sheet, round, place));
+            most = most.max(self.exit_at(linked, method, state_table, round, place));
         }
         most
     }
 
     /// The most that follows a loop: what follows the one round it, or what its body goes out to.
-    fn follows(&self, linked: &Linked, method: MethodNumber, sheet: &Sheet, round: Round) -> u64
-        requires strongest { IsMethodStrongest linked.now method sheet.now }
+    fn follows(
+        &self,
+        linked: &Linked,
+        method: MethodNumber,
+        state_table: &StateTable,
+        round: Round,
+    ) -> u64
+        requires strongest { IsMethodStrongest linked.now method state_table.now }
         requires order { round.first < round.last }
         requires last { suc round.last < 2 ^ 64 }
-        ensures is { Follows linked.now method sheet.now self.now.from (after_in self.now.after (region_of self.now.innermost)) round.first round.last result }
+        ensures is { Follows linked.now method state_table.now self.now.from (after_in self.now.after (region_of self.now.innermost)) round.first round.last result }
         ensures low { result ≤ 4294967296 }
     {
         self.after_in(self.innermost)
-            .max(self.exits_of(linked, method, sheet, round))
+            .max(self.exits_of(linked, method, state_table, round))
     }
 
     /// Goes into the body of a loop, at its end.
@@ -196,16 +208,16 @@ impl Pass {
         linked: &Linked,
         costs: &Costs,
         method: MethodNumber,
-        sheet: &Sheet,
+        state_table: &StateTable,
         place: usize,
         instr: &Instr,
     ) -> u64
         requires fits { suc place < 2 ^ 64 }
         requires costs { AreCosts linked.now costs.now }
-        ensures is { (sh : Shape) → at None sheet.now place ≡ Some sh → result ≡ plain_cost linked.now method costs.now.prices (found_by self.now.from self.now.after) (region_of self.now.innermost) place sh instr.now }
+        ensures is { (sh : AbstractState) → at None state_table.now place ≡ Some sh → result ≡ plain_cost linked.now method costs.now.prices (found_by self.now.from self.now.after) (region_of self.now.innermost) place sh instr.now }
         ensures low { result ≤ 4294967296 }
     {
-        match sheet.view(place) {
+        match state_table.view(place) {
             None => 0,
             Some(shape) => {
                 let onward = self
@@ -217,17 +229,17 @@ impl Pass {
     }
 
     /// Keeps what a place costs, if it is reached.
-    fn note(&mut self, sheet: &Sheet, place: usize, cost: u64)
+    fn note(&mut self, state_table: &StateTable, place: usize, cost: u64)
         requires within { place < length self.old.from }
         requires low { cost ≤ 4294967296 }
-        ensures here { (sh : Shape) → at None sheet.now place ≡ Some sh → at 0 self.new.from place ≡ cost }
+        ensures here { (sh : AbstractState) → at None state_table.now place ≡ Some sh → at 0 self.new.from place ≡ cost }
         ensures others { (y : ℕ) → y ≢ place → at 0 self.new.from y ≡ at 0 self.old.from y }
         ensures size { length self.new.from ≡ length self.old.from }
         ensures after { self.new.after ≡ self.old.after }
         ensures around { self.new.around.items ≡ self.old.around.items }
         ensures innermost { self.new.innermost ≡ self.old.innermost }
     {
-        if sheet.view(place).is_some() {
+        if state_table.view(place).is_some() {
             self.from.set(place, cost);
         }
     }
@@ -238,15 +250,15 @@ impl Pass {
         linked: &Linked,
         costs: &Costs,
         method: MethodNumber,
-        sheet: &Sheet,
+        state_table: &StateTable,
         place: usize,
     )
-        requires strongest { IsMethodStrongest linked.now method sheet.now }
-        requires passing { IsPassing linked.now costs.now.prices method sheet.now (suc place) self.old.from self.old.after self.old.innermost self.old.around.items }
+        requires strongest { IsMethodStrongest linked.now method state_table.now }
+        requires passing { IsPassing linked.now costs.now.prices method state_table.now (suc place) self.old.from self.old.after self.old.innermost self.old.around.items }
         requires costs { AreCosts linked.now costs.now }
         requires place { place < length self.old.from }
         requires fits { suc place < 2 ^ 64 }
-        ensures passing { IsPassing linked.now costs.now.prices method sheet.now place self.new.from self.new.after self.new.innermost self.new.around.items }
+        ensures passing { IsPassing linked.now costs.now.prices method state_table.now place self.new.from self.new.after self.new.innermost self.new.around.items }
         ensures size { length self.new.from ≡ length self.old.from }
     {
         linked.facts();
@@ -260,33 +272,39 @@ impl Pass {
                     first: to.number() as usize - 1,
                     last: place,
                 };
-                let follows = self.follows(linked, method, sheet, round);
+                let follows = self.follows(linked, method, state_table, round);
                 self.close(round, follows);
-                self.note(sheet, place, kept(1 + follows));
+                self.note(state_table, place, kept(1 + follows));
             }
             Transfer::Begin(_, rounds) => {
                 self.innermost = self.around[place];
                 let cost = self.all_rounds(place, *rounds);
-                self.note(sheet, place, cost);
+                self.note(state_table, place, cost);
             }
             _ => {
-                let cost = self.plain(linked, costs, method, sheet, place, &instr);
-                self.note(sheet, place, cost);
+                let cost = self.plain(linked, costs, method, state_table, place, &instr);
+                self.note(state_table, place, cost);
             }
         }
     }
 
     /// Finds what the method costs from each place, the last one first.
-    fn sweep(&mut self, linked: &Linked, costs: &Costs, method: MethodNumber, sheet: &Sheet)
-        requires strongest { IsMethodStrongest linked.now method sheet.now }
+    fn sweep(
+        &mut self,
+        linked: &Linked,
+        costs: &Costs,
+        method: MethodNumber,
+        state_table: &StateTable,
+    )
+        requires strongest { IsMethodStrongest linked.now method state_table.now }
         requires costs { AreCosts linked.now costs.now }
-        requires passing { IsPassing linked.now costs.now.prices method sheet.now (length self.old.from) self.old.from self.old.after self.old.innermost self.old.around.items }
-        ensures { IsPassing linked.now costs.now.prices method sheet.now 0 self.new.from self.new.after self.new.innermost self.new.around.items }
+        requires passing { IsPassing linked.now costs.now.prices method state_table.now (length self.old.from) self.old.from self.old.after self.old.innermost self.old.around.items }
+        ensures { IsPassing linked.now costs.now.prices method state_table.now 0 self.new.from self.new.after self.new.innermost self.new.around.items }
     {
         let mut place = self.from.len();
         while place > 0 {
             place -= 1;
-            self.visit(linked, costs, method, sheet, place);
+            self.visit(linked, costs, method, state_table, place);
         }
     }
 }
@@ -314,6 +332,6 @@ pub(crate) fn price_of(
 {
     let linked = checked.linked();
     let mut pass = Pass::new(alloc, place_count(linked, method))?;
-    pass.sweep(linked, costs, method, checked.sheet(method));
+    pass.sweep(linked, costs, method, checked.state_table(method));
     Ok(pass.from.at(0))
 }

@@ -10,7 +10,7 @@ use crate::pass::price_of;
 use crate::sums::{Sums, kept};
 use crate::table::number_at;
 use aom_image::{ClassKind, ClassNumber, Role, Thing};
-use aom_linked::Linked;
+use aom_linker::Linked;
 use aom_verify::Checked;
 use std::alloc::{AllocError, Global};
 

@@ -6,8 +6,8 @@ ghost use Rattle.aom_roles.specs.Tables.{at};
 ghost use Rattle.aom_budget.specs.Greatest.{is_body};
 
 use crate::sums::Sums;
-use aom_classes::over_of;
 use aom_image::{ClassNumber, Image, MethodNumber};
+use aom_link_conditions::overridden_method;
 use aom_roles::parent_of;
 
 /// Raises what a table says of a method, and of all that it overrides, itself or through others.
@@ -18,14 +18,14 @@ pub(crate) fn raise_called(image: &Image, table: &mut Sums, method: MethodNumber
 {
     table.raise(method.number() as usize, number);
     let mut left = image.methods().len();
-    let mut here = over_of(image, method);
+    let mut here = overridden_method(image, method);
     while let Some(other) = here {
         table.raise(other.number() as usize, number);
         if left == 0 {
             return;
         }
         left -= 1;
-        here = over_of(image, other);
+        here = overridden_method(image, other);
     }
 }
 

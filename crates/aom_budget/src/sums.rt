@@ -7,13 +7,13 @@ use std::alloc::{AllocError, Global};
 use std::marker::Model;
 
 /// The most that a sum counts for.
-const MOST: u64 = 4_294_967_296;
+const MAX: u64 = 4_294_967_296;
 
 /// The sum, or the most that one counts for.
 pub(crate) fn kept(sum: u64) -> u64
     ensures { result ≡ kept sum }
 {
-    sum.min(MOST)
+    sum.min(MAX)
 }
 
 #[derive(Drop)]

@@ -2,7 +2,7 @@
 ghost use Rattle.std.specs.Prelude.{◌≡◌, ◌<◌, nat_le, length, replicate, slice_set, IfOk};
 ghost use Rattle.std.specs.List.{list_all};
 ghost use Rattle.aom_roles.specs.Tables.{at};
-ghost use Rattle.aom_typings.specs.Calls.{listed};
+ghost use Rattle.aom_static_bounds.specs.Calls.{listed};
 ghost use Rattle.aom_budget.specs.Greatest.{most_at};
 
 use aom_image::{ClassNumber, MethodNumber};

@@ -1,14 +1,14 @@
 //! Where an instruction goes on.
 ghost use Rattle.std.specs.Prelude.{◌≡◌, ◌++◌, [], ◌∷◌, ◌<◌, ◌^◌, suc, bit_and};
 ghost use Rattle.aom_image.specs.Image.{Image as ImageRecord};
-ghost use Rattle.aom_typings.specs.Calls.{listed};
+ghost use Rattle.aom_static_bounds.specs.Calls.{listed};
 ghost use Rattle.aom_budget.specs.Pricing.{null_targets, empty_targets, states_targets, targets_of};
 
+use aom_abstract_state::{FieldState, Kind};
 use aom_image::{Instr, InstrPlace, States};
 use aom_instructions::{Condition, Transfer};
-use aom_ruling::{enlisted, inactive, outstanding};
-use aom_shape::{Filling, Kind};
-use aom_verify::ShapeView;
+use aom_rule_functions::{enlisted, inactive, outstanding};
+use aom_verify::AbstractStateView;
 use bitflags::Flags;
 
 /// At most two places.
@@ -64,13 +64,13 @@ impl Targets {
         }
     }
 
-    fn of_empty(next: usize, filling: Filling, to: usize) -> Targets
-        ensures { listed result.first ++ listed result.second ≡ empty_targets next filling to }
+    fn of_empty(next: usize, field_state: FieldState, to: usize) -> Targets
+        ensures { listed result.first ++ listed result.second ≡ empty_targets next field_state to }
     {
-        match filling {
-            Filling::Empty => Targets::one(to),
-            Filling::Full => Targets::one(next),
-            Filling::Perhaps => Targets::two(next, to),
+        match field_state {
+            FieldState::Empty => Targets::one(to),
+            FieldState::Full => Targets::one(next),
+            FieldState::Perhaps => Targets::two(next, to),
         }
     }
 
@@ -90,7 +90,7 @@ impl Targets {
     }
 
     /// The places at which a run may go on from one, by what is known there.
-    pub(crate) fn of_instr(place: usize, shape: &ShapeView<'_>, instr: &Instr) -> Targets
+    pub(crate) fn of_instr(place: usize, shape: &AbstractStateView<'_>, instr: &Instr) -> Targets
         requires { suc place < 2 ^ 64 }
         ensures { (p : ImageRecord) → listed result.first ++ listed result.second ≡ targets_of p place shape.now instr.now }
     {

@@ -15,8 +15,8 @@ abbrev pub message_at : Store → ℕ → Option (List ℤ)
 message_at s place = slice_index_or s.slots place None
 
 -- a message is kept at the place
-abbrev pub IsKept : Store → ℕ → Type 0
-IsKept s place = IsSome (message_at s place)
+abbrev pub IsStored : Store → ℕ → Type 0
+IsStored s place = IsSome (message_at s place)
 
 -- how many are kept
 abbrev pub count : Store → ℕ
@@ -39,4 +39,4 @@ pub record Changes (old new : Store) (place : ℕ) (message : Option (List ℤ))
 
 -- no more messages are kept than may be, and their places are below that limit, which is 1,024 at most
 abbrev pub IsBounded : Store → Type 0
-IsBounded s = (count s ≤ s.limit) × ((place : ℕ) → IsKept s place → place < s.limit) × (s.limit ≤ 1024)
+IsBounded s = (count s ≤ s.limit) × ((place : ℕ) → IsStored s place → place < s.limit) × (s.limit ≤ 1024)

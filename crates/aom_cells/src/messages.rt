@@ -1,6 +1,6 @@
 //! The messages that are kept, by place.
 ghost use Rattle.std.specs.Prelude.{◌≡◌, ◌==◌, ◌<◌, ◌≤◌, ◌+◌, [], Some, None, IfOk, IfSome, IsSome, IsNone, OnSome, ◌↔◌};
-ghost use Rattle.aom_cells.specs.Store.{IsKept, Changes, count, message_at, word_at};
+ghost use Rattle.aom_cells.specs.Store.{IsStored, Changes, count, message_at, word_at};
 
 use crate::MessageId;
 use slab::Slab;
@@ -56,7 +56,7 @@ impl Messages {
 
     /// The id of the message at that place, if one is kept there.
     pub fn find(&self, place: u16) -> Option<MessageId>
-        ensures kept { IsSome result ↔ IsKept self.now place }
+        ensures kept { IsSome result ↔ IsStored self.now place }
         ensures value { IfSome result (λ id. id ≡ place) }
     {
         if self.slab.contains(usize::from(place)) {
@@ -88,7 +88,7 @@ impl Messages {
 
     /// Ends a message. Its place may be given out again.
     pub fn release(&mut self, id: MessageId)
-        requires { IsKept self.old id }
+        requires { IsStored self.old id }
         ensures gone { Changes self.old self.new id None }
         ensures count { count self.new + 1 ≡ count self.old }
     {
@@ -97,7 +97,7 @@ impl Messages {
 
     /// A word of a message: 0 is its function.
     pub fn word(&self, id: MessageId, word: u8) -> i32
-        requires kept { IsKept self.now id }
+        requires kept { IsStored self.now id }
         requires within { word < 5 }
         ensures { result ≡ word_at self.now id word }
     {

@@ -7,7 +7,7 @@ use std::alloc::{AllocError, Global};
 use std::marker::Model;
 
 /// A native that can be killed has one of so many numbers.
-const MOST_NATIVES: usize = 256;
+const MAX_NATIVES: usize = 256;
 
 /// Which cells have a session, and which natives are killed.
 #[derive(Drop)]
@@ -36,7 +36,7 @@ impl Sessions {
         ensures { IfOk result (λ s. s ≡ record { flags = replicate cells false; killed = [] }) }
     {
         let flags = vec![in alloc; false; cells]?;
-        let killed = Vec::with_capacity(alloc, MOST_NATIVES)?;
+        let killed = Vec::with_capacity(alloc, MAX_NATIVES)?;
         Ok(Sessions { flags, killed })
     }
 

@@ -15,9 +15,9 @@ use Rattle.aom_clients.specs.declared.place.MessagePlace.TheVariants.{Free, Held
 use Rattle.aom_clients.specs.declared.entry.QueueEntry.{QueueEntry}
 use Rattle.aom_clients.specs.declared.place.Completion.{Completion}
 use Rattle.aom_clients.specs.Table.{completion, server_of}
-use Rattle.aom_clients.specs.Clients.{State, at_first, client_at, queue_at, sessions_at, sent_at, has_slot}
+use Rattle.aom_clients.specs.Clients.{ClientsState, at_first, client_at, queue_at, sessions_at, sent_at, has_slot}
 use Rattle.aom_clients.specs.Clients.{sending_to, is_connect, first_client, first_entry, client_after}
-use Rattle.aom_clients.specs.Nodes.{entry_of, connecting_in, slots_of, named_by, state_of, AreSent, IsKept}
+use Rattle.aom_clients.specs.Nodes.{entry_of, connecting_in, slots_of, named_by, state_of, AreSent, ClientTablesAgree}
 use Rattle.aom_clients.proofs.Entries.{connects-counted}
 use Rattle.aom_clients.proofs.Steps.{client, client-is, queue-is}
 
@@ -43,7 +43,7 @@ after-same c [] = refl
 after-same c (x ∷ xs) = grind (arith, nat_tests, first-same xs, after-same c xs)
 
 -- whether a queue has an entry is told by its length
-some-first : (s : State) (es : List QueueEntry) → nat_lt 0 (length es) ≡ is_some (first_entry s es)
+some-first : (s : ClientsState) (es : List QueueEntry) → nat_lt 0 (length es) ≡ is_some (first_entry s es)
 some-first s [] = refl
 some-first s (e ∷ es) = search rules
 
@@ -63,7 +63,7 @@ after-in c d (x ∷ xs) e = go (cases_eq x c) (after-in c d xs)
     go (inl same) more = inr (first-in d xs (sym (cond-true (x == c) (first_of xs) (after_node c xs) (eq-eqb x c same)) ∙ e))
     go (inr other) more = inr (more (sym (cond-false (x == c) (first_of xs) (after_node c xs) (ne_eqb x c other)) ∙ e))
 
-module _ (cl : List Client) (pl : List MessagePlace) (q cn ss st : Table) (r : IsKept cl pl q cn ss st) (s : State) (is : state_of cl pl q ss st ≡ s) where
+module _ (cl : List Client) (pl : List MessagePlace) (q cn ss st : Table) (r : ClientTablesAgree cl pl q cn ss st) (s : ClientsState) (is : state_of cl pl q ss st ≡ s) where
   pub slot-room : (c : ℕ) → has_slot (length (sent_at s c)) (client_at s c) ≡ true → length (sent_at s c) < 64
   slot-room c h = grind (arith, nat_tests, slot-below, client-is)
 
@@ -123,7 +123,7 @@ calm c = same-all Unconnected 64 c
 unused : (m : ℕ) → slice_index_or all_places m Free ≡ Free
 unused m = same-all Free 1024 m
 
-pub at-first : (cells : ℕ) → cells ≤ 4096 → IsKept all_clients all_places (empty 1152 cells) (empty 64 cells) (empty 64 cells) (empty 1024 128)
+pub at-first : (cells : ℕ) → cells ≤ 4096 → ClientTablesAgree all_clients all_places (empty 1152 cells) (empty 64 cells) (empty 64 cells) (empty 1024 128)
 at-first cells few = record {
   sized = record {
     clients_long = length-replicate 64 Unconnected;
@@ -189,6 +189,6 @@ pub completed-below : (pl : List MessagePlace) (st : Table) → AreSent pl st �
 completed-below pl st s m t e = go (slice_index_or pl m Free) refl e
   where
     go : (p : MessagePlace) → slice_index_or pl m Free ≡ p → Some t ≡ completion p → t.client < 64
-    go (Held c) is e = subst (λ (x : Completion). x.client < 64) (sym (same_Some t (record { client = c; is_told = true }) e)) (s.held c m is).0
-    go (Discarded c) is e = subst (λ (x : Completion). x.client < 64) (sym (same_Some t (record { client = c; is_told = false }) e)) (s.senders c m is)
+    go (Held c) is e = subst (λ (x : Completion). x.client < 64) (sym (same_Some t (record { client = c; is_reported = true }) e)) (s.held c m is).0
+    go (Discarded c) is e = subst (λ (x : Completion). x.client < 64) (sym (same_Some t (record { client = c; is_reported = false }) e)) (s.senders c m is)
     go _ is e = absurd (none-some t (sym e))

@@ -4,7 +4,7 @@ use Rattle.std.proofs.Common.{arith, ◌≡◌, ◌≢◌, ◌<◌, ◌⊎◌, �
 use Rattle.std.specs.Prelude.{slice_index}
 use Rattle.std.proofs.lemmas.List.{append-nil, get_or-set_same, get_or-set_other}
 use Rattle.aom_clients.specs.Lists.{IsIn, IsOnce}
-use Rattle.aom_clients.specs.Rings.{IsChain, walk}
+use Rattle.aom_clients.specs.CircularLists.{IsChain, walk}
 use Rattle.aom_clients.proofs.Members.{in-left, in-right, in-either, once-left, once-right, once-apart}
 
 module _ (A B : List ℕ) where
@@ -29,30 +29,30 @@ module _ (A B : List ℕ) where
 -- the links with a new one from the first place to the second
 pub record IsRelinked (A B A' B' : List ℕ) (a b : ℕ) : Type 0 where
   pub after : slice_index A' a ≡ b
-  pub afters : (i : ℕ) → i ≢ a → slice_index A' i ≡ slice_index A i
+  pub successors : (i : ℕ) → i ≢ a → slice_index A' i ≡ slice_index A i
   pub before : slice_index B' b ≡ a
-  pub befores : (i : ℕ) → i ≢ b → slice_index B' i ≡ slice_index B i
+  pub predecessors : (i : ℕ) → i ≢ b → slice_index B' i ≡ slice_index B i
 
 pub relinked : (A B : List ℕ) (a b : ℕ) → a < length A → b < length B → IsRelinked A B (set A a b) (set B b a) a b
 relinked A B a b small large = record {
   after = get_or-set_same A a b 0 small;
-  afters = λ i other. get_or-set_other A a i b 0 other;
+  successors = λ i other. get_or-set_other A a i b 0 other;
   before = get_or-set_same B b a 0 large;
-  befores = λ i other. get_or-set_other B b i a 0 other;
+  predecessors = λ i other. get_or-set_other B b i a 0 other;
 }
 
 module _ (A B A' B' : List ℕ) (p n : ℕ) (new : IsRelinked A B A' B' p n) where
   -- a chain that the new link does not touch stays
   pub chain-frame : (x : ℕ) (xs : List ℕ) (y : ℕ) → (IsIn p (x ∷ xs) → ⊥) → (IsIn n (xs ++ y ∷ []) → ⊥) → IsChain A B x xs y → IsChain A' B' x xs y
-  chain-frame x [] y out off c = (new.afters x (λ e. out (inl e)) ∙ c.0, new.befores y (λ e. off (inl e)) ∙ c.1)
-  chain-frame x (w ∷ xs) y out off c = search (arith, nat_tests, new.afters x, new.befores w, chain-frame w xs y)
+  chain-frame x [] y out off c = (new.successors x (λ e. out (inl e)) ∙ c.0, new.predecessors y (λ e. off (inl e)) ∙ c.1)
+  chain-frame x (w ∷ xs) y out off c = search (arith, nat_tests, new.successors x, new.predecessors w, chain-frame w xs y)
 
 -- a chain whose last link is led to another place ends there
 pub chain-redirect : (A B A' B' : List ℕ) (n x : ℕ) (xs : List ℕ) (y : ℕ) → IsRelinked A B A' B' (slice_index B y) n
     → IsOnce (x ∷ xs) → (IsIn n xs → ⊥) → IsChain A B x xs y → IsChain A' B' x xs n
 chain-redirect A B A' B' n x [] y new once off c = (subst (λ k. slice_index A' k ≡ n) c.1 new.after, new.before ∙ c.1)
 chain-redirect A B A' B' n x (w ∷ xs) y new once off c =
-    search (arith, nat_tests, new.afters x, new.befores w, chain-redirect A B A' B' n w xs y new once.1, last-in A B w xs y c.1)
+    search (arith, nat_tests, new.successors x, new.predecessors w, chain-redirect A B A' B' n w xs y new once.1, last-in A B w xs y c.1)
 
 -- a ring without one of its nodes
 pub chain-unlink : (A B A' B' : List ℕ) (e : ℕ) (xs : List ℕ) (x : ℕ) (ys : List ℕ) → IsRelinked A B A' B' (slice_index B x) (slice_index A x) →

@@ -12,8 +12,8 @@ use Rattle.aom_clients.specs.declared.place.MessagePlace.{MessagePlace}
 use Rattle.aom_clients.specs.declared.place.MessagePlace.TheVariants.{Free, Queued}
 use Rattle.aom_clients.specs.declared.entry.QueueEntry.TheVariants.{Close}
 use Rattle.aom_clients.specs.Table.{is_queued, is_out_of, is_waiting_of}
-use Rattle.aom_clients.specs.Clients.{State, client_at, with_client, left_place, stays, withdrawn, told, leaving, freed}
-use Rattle.aom_clients.specs.Nodes.{entry_of, is_leaving, named_by, is_held_of, state_of, Waits, AreSized, AreEntries, AreConnects, IsKept}
+use Rattle.aom_clients.specs.Clients.{ClientsState, client_at, with_client, left_place, stays, withdrawn, reported, leaving, freed}
+use Rattle.aom_clients.specs.Nodes.{entry_of, is_leaving, named_by, is_held_of, state_of, Waits, AreSized, AreEntries, AreConnects, ClientTablesAgree}
 use Rattle.aom_clients.specs.Parts.{IsLeft, CanClose, close_queued}
 use Rattle.aom_clients.proofs.Entries.{close-is, message-no, close-no}
 use Rattle.aom_clients.proofs.Tables.{Alike, alike-same, alike-with, alike-without, alike-then, at-without, shown, shown-push}
@@ -22,7 +22,7 @@ use Rattle.aom_clients.proofs.Kept.{listed-without-connect, listed-without-other
 use Rattle.aom_clients.proofs.Leaving.{place-there, place}
 use Rattle.std.proofs.Math.ListN.{get_or-map}
 use Rattle.aom_clients.specs.Withdrawals.{without_each, left_each}
-use Rattle.aom_clients.proofs.Leaving.{Leaves, leaves, places-left, drop_each, drop-nil, each-dropped, Tells, queue-left}
+use Rattle.aom_clients.proofs.Leaving.{Leaves, leaves, places-left, drop_each, drop-nil, each-dropped, Reports, queue-left}
 use Rattle.aom_clients.proofs.Steps.{client, take-set-lt, queued-of, client-is, among, waiting-below}
 use Rattle.aom_clients.proofs.Slots.{left-queued, left-at, sent-left}
 
@@ -48,7 +48,7 @@ listed-each q cn [] below a = a
 listed-each q cn (m ∷ ms) below a = listed-each (record q { lists = map (without m) q.lists }) cn ms (λ n i. below n (inr i))
     (listed-without-other q cn m (message-no m (below m (inl refl))) a)
 
-queues-left : (ms : List ℕ) (pl : List MessagePlace) (c : ℕ) → c < 64 → (lists : List (List ℕ)) → ((k : ℕ) → Tells ms pl c (slice_index_or lists k []))
+queues-left : (ms : List ℕ) (pl : List MessagePlace) (c : ℕ) → c < 64 → (lists : List (List ℕ)) → ((k : ℕ) → Reports ms pl c (slice_index_or lists k []))
     → shown entry_of (map (without (1024 + c)) (map (drop_each ms) lists)) ≡ map (filter (stays c pl)) (shown entry_of lists)
 queues-left ms pl c small [] t = refl
 queues-left ms pl c small (zs ∷ lists) t = ap (λ es. es ∷ shown entry_of (map (without (1024 + c)) (map (drop_each ms) lists)))
@@ -60,7 +60,7 @@ some-out c p e f = false≢true (sym (ap (is_out_of c) f) ∙ e)
 some-held : (c : ℕ) (p : MessagePlace) → is_held_of c p ≡ true → p ≡ Free → ⊥
 some-held c p e f = false≢true (sym (ap (is_held_of c) f) ∙ e)
 
-module _ (cl : List Client) (pl : List MessagePlace) (q cn ss st : Table) (r : IsKept cl pl q cn ss st) (s : State) (is : state_of cl pl q ss st ≡ s) where
+module _ (cl : List Client) (pl : List MessagePlace) (q cn ss st : Table) (r : ClientTablesAgree cl pl q cn ss st) (s : ClientsState) (is : state_of cl pl q ss st ≡ s) where
   module _ (c : ℕ) (next : Client) (small : c < 64) (left : IsLeft (client_at s c) next) where
     lv : Leaves (client cl c) next
     lv = leaves (client cl c) next (subst (λ x. IsLeft x next) (sym (client-is cl pl q cn ss st r s is c)) left)
@@ -162,7 +162,7 @@ module _ (cl : List Client) (pl : List MessagePlace) (q cn ss st : Table) (r : I
     sized-left : AreSized cl2 pl3 q2 cn2 ss st2
     sized-left = grind (arith, nat_tests, sized-as, length-set, length-map, alike-then, alike-each, alike-without, alike-same)
 
-    kept-so-far : IsKept cl2 pl3 q2 cn2 ss st2
+    kept-so-far : ClientTablesAgree cl2 pl3 q2 cn2 ss st2
     kept-so-far = record {
       sized = sized-left;
       entries = entries-client-left;
@@ -173,7 +173,7 @@ module _ (cl : List Client) (pl : List MessagePlace) (q cn ss st : Table) (r : I
           (named-set cl (length q.lists) c next (among cl pl q cn ss st r s is c small) (λ j h. r.named.servers c j (lv.named j h)) lv.slots r.named);
     }
 
-    kept-by : (x : Client) → client cl c ≡ x → IsKept cl2 pl3 (close_queued x c q2) cn2 ss st2
+    kept-by : (x : Client) → client cl c ≡ x → ClientTablesAgree cl2 pl3 (close_queued x c q2) cn2 ss st2
     kept-by Unconnected e = kept-so-far
     kept-by (Connecting k n) e = kept-so-far
     kept-by (Open k n slots) e = record {
@@ -202,11 +202,11 @@ module _ (cl : List Client) (pl : List MessagePlace) (q cn ss st : Table) (r : I
     kept-by Dead e = kept-so-far
     kept-by (Dying k n) e = kept-so-far
 
-    pub left-kept : (x : Client) → x ≡ client_at s c → IsKept cl2 pl2 (close_queued x c q2) cn2 ss st2
-    left-kept x e = subst (λ ps. IsKept cl2 ps (close_queued x c q2) cn2 ss st2) (sym places-are) (kept-by x (client-is cl pl q cn ss st r s is c ∙ sym e))
+    pub left-kept : (x : Client) → x ≡ client_at s c → ClientTablesAgree cl2 pl2 (close_queued x c q2) cn2 ss st2
+    left-kept x e = subst (λ ps. ClientTablesAgree cl2 ps (close_queued x c q2) cn2 ss st2) (sym places-are) (kept-by x (client-is cl pl q cn ss st r s is c ∙ sym e))
 
-    tells : (k : ℕ) → Tells xs pl c (list_at q k)
-    tells k = record {
+    reports : (k : ℕ) → Reports xs pl c (list_at q k)
+    reports k = record {
       gone = λ z i j. gone z i j (queued-of (place pl z) (r.entries.messages k z (below z j) i));
       stay = λ z i w less. (r.out.waiting c z (waiting (place pl z) w)).1;
     }
@@ -222,26 +222,26 @@ module _ (cl : List Client) (pl : List MessagePlace) (q cn ss st : Table) (r : I
         waiting _ w = absurd (false≢true w)
 
     queues-shown : shown entry_of q2.lists ≡ map (filter (stays c pl)) (shown entry_of q.lists)
-    queues-shown = ap (λ ls. shown entry_of (map (without (1024 + c)) ls)) (each-dropped xs q.lists) ∙ queues-left xs pl c small q.lists tells
+    queues-shown = ap (λ ls. shown entry_of (map (without (1024 + c)) ls)) (each-dropped xs q.lists) ∙ queues-left xs pl c small q.lists reports
 
     sent-shown : take 64 st2.lists ≡ slice_set (take 64 st.lists) c []
     sent-shown = take-set-le 64 st1.lists (64 + c) [] (omega arith) ∙ take-set-lt 64 st.lists c [] small
 
-    told-seen : (x : Client) → state_of cl2 pl3 (close_queued x c q2) ss st2 ≡ told x c (state_of cl2 pl3 q2 ss st2)
-    told-seen Unconnected = refl
-    told-seen (Connecting k n) = refl
-    told-seen (Open k n slots) = ap (λ qs. record { clients = cl2; places = pl3; queues = qs; sessions = ss.lists; sent = take 64 st2.lists })
+    reported-seen : (x : Client) → state_of cl2 pl3 (close_queued x c q2) ss st2 ≡ reported x c (state_of cl2 pl3 q2 ss st2)
+    reported-seen Unconnected = refl
+    reported-seen (Connecting k n) = refl
+    reported-seen (Open k n slots) = ap (λ qs. record { clients = cl2; places = pl3; queues = qs; sessions = ss.lists; sent = take 64 st2.lists })
         (shown-push entry_of q2.lists k (1088 + c) (Close c) (close-is c))
-    told-seen (Closing k n) = refl
-    told-seen Gone = refl
-    told-seen Dead = refl
-    told-seen (Dying k n) = refl
+    reported-seen (Closing k n) = refl
+    reported-seen Gone = refl
+    reported-seen Dead = refl
+    reported-seen (Dying k n) = refl
 
     pub left-seen : (x : Client) → x ≡ client_at s c → state_of cl2 pl2 (close_queued x c q2) ss st2 ≡ leaving (Some next) c s
-    left-seen x e = ap (λ ps. state_of cl2 ps (close_queued x c q2) ss st2) places-are ∙ told-seen x
-        ∙ ap (λ qs. told x c (record { clients = cl2; places = pl3; queues = qs; sessions = ss.lists; sent = take 64 st2.lists })) queues-shown ∙ ap (λ ls. told
+    left-seen x e = ap (λ ps. state_of cl2 ps (close_queued x c q2) ss st2) places-are ∙ reported-seen x
+        ∙ ap (λ qs. reported x c (record { clients = cl2; places = pl3; queues = qs; sessions = ss.lists; sent = take 64 st2.lists })) queues-shown ∙ ap (λ ls. reported
         x c (record { clients = cl2; places = pl3; queues = map (filter (stays c pl)) (shown entry_of q.lists); sessions = ss.lists; sent = ls })) sent-shown
-        ∙ ap (λ t. told x c (with_client c next (withdrawn c t))) is ∙ ap (λ y. told y c (with_client c next (withdrawn c s))) e
+        ∙ ap (λ t. reported x c (with_client c next (withdrawn c t))) is ∙ ap (λ y. reported y c (with_client c next (withdrawn c s))) e
 
     pub freed-is : filter (λ m. is_queued (place pl m)) xs ≡ freed (Some next) c s
     freed-is = ap (filter (λ m. is_queued (place pl m))) (sym (get_or-take 64 st.lists c [] small)) ∙ ap (freed (Some next) c) is

@@ -10,27 +10,27 @@ use Rattle.aom_clients.specs.declared.server.Server.{Server}
 use Rattle.aom_clients.specs.declared.entry.QueueEntry.{QueueEntry}
 use Rattle.aom_clients.specs.declared.entry.QueueEntry.TheVariants.{Connect, Message, Close}
 use Rattle.aom_clients.specs.Table.{row}
-use Rattle.aom_clients.specs.Clients.{State, connect_refusal, after_connect, send_refusal, after_send, after_close, after_die, freed, after_next}
+use Rattle.aom_clients.specs.Clients.{ClientsState, connect_refusal, after_connect, send_refusal, after_send, after_close, after_die, freed, after_next}
 use Rattle.aom_clients.specs.Clients.{after_connected, after_closed, after_complete, after_next_gone, after_session_gone, server_gone}
 
 -- client 0 with two message places and server 0: what it is at, what the places have, the queue, the sessions, and what holds a slot
-abbrev one : Client → MessagePlace → MessagePlace → List QueueEntry → List ℕ → List ℕ → State
+abbrev one : Client → MessagePlace → MessagePlace → List QueueEntry → List ℕ → List ℕ → ClientsState
 one x p q queue sessions sent = record { clients = x ∷ []; places = p ∷ q ∷ []; queues = queue ∷ []; sessions = sessions ∷ []; sent = sent ∷ [] }
 
 -- with nothing on its way
-abbrev alone : Client → State
+abbrev alone : Client → ClientsState
 alone x = one x Free Free [] [] []
 
 -- with its session open, and so many slots
-abbrev open_with : ℕ → State
+abbrev open_with : ℕ → ClientsState
 open_with slots = one (Open 0 5 slots) Free Free [] (0 ∷ []) []
 
 abbrev to : ℕ → Option Server
 to most = Some (record { cell = 0; most = most })
 
 -- what comes of each command where the client alone decides that: why a connect and a send are refused, and the state after a close and a death
-abbrev told : State → Option CommandRefusal × Option CommandRefusal × State × State
-told s = (connect_refusal 0 (to 9) s, send_refusal 0 (Some 1) s, after_close 0 s, after_die 0 s)
+abbrev reported : ClientsState → Option CommandRefusal × Option CommandRefusal × ClientsState × ClientsState
+reported s = (connect_refusal 0 (to 9) s, send_refusal 0 (Some 1) s, after_close 0 s, after_die 0 s)
 
 -- unconnected
 unconnected-nowhere : connect_refusal 0 None (alone Unconnected) ≡ Some NotFound
@@ -52,11 +52,11 @@ unconnected-die : after_die 0 (alone Unconnected) ≡ alone Dead
 unconnected-die = refl
 
 -- connecting
-abbrev asking : State
+abbrev asking : ClientsState
 asking = one (Connecting 0 2) Free Free (Connect 0 ∷ []) [] []
 
-connecting-told : told asking ≡ (Some ServerBusy, Some ServerBusy, alone Unconnected, alone Dead)
-connecting-told = refl
+connecting-reported : reported asking ≡ (Some ServerBusy, Some ServerBusy, alone Unconnected, alone Dead)
+connecting-reported = refl
 
 -- open: a message is sent while a slot and a place are free
 open-connect : connect_refusal 0 (to 9) (open_with 2) ≡ Some ServerBusy
@@ -72,7 +72,7 @@ open-no-place : send_refusal 0 None (open_with 2) ≡ Some ServerBusy
 open-no-place = refl
 
 -- what waits goes, what is held is discarded, and a close is queued last
-abbrev busy : State
+abbrev busy : ClientsState
 busy = one (Open 0 5 2) (Held 0) (Queued 0) (Message 1 ∷ []) (0 ∷ []) (0 ∷ 1 ∷ [])
 
 open-close : after_close 0 busy ≡ one (Closing 0 5) (Discarded 0) Free (Close 0 ∷ []) (0 ∷ []) []
@@ -85,11 +85,11 @@ open-freed : freed (row (Open 0 5 2)).close 0 busy ≡ 1 ∷ []
 open-freed = refl
 
 -- closing
-abbrev ends : Client → State
+abbrev ends : Client → ClientsState
 ends x = one x Free Free (Close 0 ∷ []) (0 ∷ []) []
 
-closing-told : told (ends (Closing 0 5)) ≡ (Some ServerBusy, Some ServerBusy, ends (Closing 0 5), ends (Dying 0 5))
-closing-told = refl
+closing-reported : reported (ends (Closing 0 5)) ≡ (Some ServerBusy, Some ServerBusy, ends (Closing 0 5), ends (Dying 0 5))
+closing-reported = refl
 
 -- gone: it stays so where its connect is refused
 gone-refused : after_connect 0 (to 0) 2 (alone Gone) ≡ alone Gone
@@ -108,11 +108,11 @@ gone-die : after_die 0 (alone Gone) ≡ alone Dead
 gone-die = refl
 
 -- dead and dying
-dead-told : told (alone Dead) ≡ (Some Died, Some Died, alone Dead, alone Dead)
-dead-told = refl
+dead-reported : reported (alone Dead) ≡ (Some Died, Some Died, alone Dead, alone Dead)
+dead-reported = refl
 
-dying-told : told (ends (Dying 0 5)) ≡ (Some Died, Some Died, ends (Dying 0 5), ends (Dying 0 5))
-dying-told = refl
+dying-reported : reported (ends (Dying 0 5)) ≡ (Some Died, Some Died, ends (Dying 0 5), ends (Dying 0 5))
+dying-reported = refl
 
 -- a service: a connect, a message and a close are taken and served
 connect-served : after_connected 0 (Some 5) (after_next 0 asking) ≡ open_with 2

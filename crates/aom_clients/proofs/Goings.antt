@@ -9,9 +9,9 @@ use Rattle.aom_clients.specs.Lists.{Table, IsIn, IsFree, list_at, with_list, fir
 use Rattle.aom_clients.specs.declared.client.Client.{Client}
 use Rattle.aom_clients.specs.declared.place.MessagePlace.{MessagePlace}
 use Rattle.aom_clients.specs.declared.place.MessagePlace.TheVariants.{Queued}
-use Rattle.aom_clients.specs.Table.{server_of, is_out_of, at_gone}
-use Rattle.aom_clients.specs.Clients.{State, queue_at, session_gone, after_session_gone}
-use Rattle.aom_clients.specs.Nodes.{entry_of, is_held_of, state_of, IsKept}
+use Rattle.aom_clients.specs.Table.{server_of, is_out_of, after_server_destroyed}
+use Rattle.aom_clients.specs.Clients.{ClientsState, queue_at, session_gone, after_session_gone}
+use Rattle.aom_clients.specs.Nodes.{entry_of, is_held_of, state_of, ClientTablesAgree}
 use Rattle.aom_clients.proofs.Tables.{alike-same, alike-with, alike-then, shown}
 use Rattle.aom_clients.proofs.Kept.{sized-as, named-set, entries-client, sessions-first}
 use Rattle.aom_clients.proofs.Leaving.{place}
@@ -19,7 +19,7 @@ use Rattle.aom_clients.proofs.Steps.{client, take-set-lt, IsWith, is-with, queue
 use Rattle.aom_clients.proofs.Services.{shape}
 use Rattle.aom_clients.proofs.Slots.{sent-release}
 
-module _ (cl : List Client) (pl : List MessagePlace) (q cn ss st : Table) (r : IsKept cl pl q cn ss st) (s : State) (is : state_of cl pl q ss st ≡ s) where
+module _ (cl : List Client) (pl : List MessagePlace) (q cn ss st : Table) (r : ClientTablesAgree cl pl q cn ss st) (s : ClientsState) (is : state_of cl pl q ss st ≡ s) where
   -- the first session of a server goes with it --------------------------------------------------------------------------------------------
   module _ (k c : ℕ) (inside : k < length s.queues) (empty : queue_at s k ≡ []) (first : Some c ≡ first_of (list_at ss k))
       (t : Table) (rest : t ≡ with_list k (rest_of (list_at ss k)) ss) (free : IsFree t c) where
@@ -30,7 +30,7 @@ module _ (cl : List Client) (pl : List MessagePlace) (q cn ss st : Table) (r : I
     ss1 = with_list k cs ss
 
     abbrev to : Client
-    to = at_gone (client cl c)
+    to = after_server_destroyed (client cl c)
 
     shaped : list_at ss k ≡ c ∷ cs
     shaped = shape (list_at ss k) c (sym first)
@@ -74,7 +74,7 @@ module _ (cl : List Client) (pl : List MessagePlace) (q cn ss st : Table) (r : I
     abbrev st1 : Table
     st1 = with_list c [] (with_list (64 + c) (list_at st (64 + c) ++ list_at st c) st)
 
-    pub session-gone-kept : IsKept (slice_set cl c to) pl q cn ss1 st1
+    pub session-gone-kept : ClientTablesAgree (slice_set cl c to) pl q cn ss1 st1
     session-gone-kept = record {
       sized = sized-as _ _ _ _ _ _ _ _ _ _ _ _ (length-set cl c to) refl (alike-same q) (alike-same cn) (alike-with ss k cs)
           (alike-then st (with_list (64 + c) (list_at st (64 + c) ++ list_at st c) st) st1 (alike-with st (64 + c) (list_at st (64 + c) ++ list_at st c))

@@ -6,7 +6,7 @@ use Rattle.std.proofs.lemmas.Bool.{cases_eq, eq-eqb, false≢true}
 use Rattle.std.proofs.lemmas.Option.{none-some, same_Some}
 use Rattle.std.proofs.lemmas.List.{length-append, append-nil, get_or-set_same, get_or-set_other}
 use Rattle.aom_clients.specs.Lists.{Table, IsIn, IsFree, list_at, with_list, without, rest_of}
-use Rattle.aom_clients.proofs.Rings.{at-set, free-without}
+use Rattle.aom_clients.proofs.CircularLists.{at-set, free-without}
 use Rattle.aom_clients.proofs.Members.{in-without, without-in, kept, left}
 use Rattle.aom_clients.specs.declared.client.Client.{Client}
 use Rattle.aom_clients.specs.declared.client.Client.TheVariants.{Unconnected}

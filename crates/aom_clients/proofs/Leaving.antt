@@ -211,18 +211,18 @@ each-dropped (m ∷ ms) lists = each-dropped ms (map (without m) lists) ∙ both
     both (zs ∷ ls) = ap (λ ks. drop_each ms (without m zs) ∷ ks) (both ls)
 
 -- a test that leaves out just these
-pub record Tells (ms : List ℕ) (pl : List MessagePlace) (c : ℕ) (zs : List ℕ) : Type 0 where
+pub record Reports (ms : List ℕ) (pl : List MessagePlace) (c : ℕ) (zs : List ℕ) : Type 0 where
   pub gone : (z : ℕ) → IsIn z zs → IsIn z ms → (z < 1024) × (is_waiting_of c (place pl z) ≡ true)
   pub stay : (z : ℕ) → IsIn z zs → is_waiting_of c (place pl z) ≡ true → z < 1024 → IsIn z ms
 
-tells-tail : (ms : List ℕ) (pl : List MessagePlace) (c z : ℕ) (zs : List ℕ) → Tells ms pl c (z ∷ zs) → Tells ms pl c zs
-tells-tail ms pl c z zs t = record { gone = λ y i. t.gone y (inr i); stay = λ y i. t.stay y (inr i) }
+reports-tail : (ms : List ℕ) (pl : List MessagePlace) (c z : ℕ) (zs : List ℕ) → Reports ms pl c (z ∷ zs) → Reports ms pl c zs
+reports-tail ms pl c z zs t = record { gone = λ y i. t.gone y (inr i); stay = λ y i. t.stay y (inr i) }
 
-pub queue-left : (ms : List ℕ) (pl : List MessagePlace) (c : ℕ) → c < 64 → (zs : List ℕ) → Tells ms pl c zs
+pub queue-left : (ms : List ℕ) (pl : List MessagePlace) (c : ℕ) → c < 64 → (zs : List ℕ) → Reports ms pl c zs
     → map entry_of (without (1024 + c) (drop_each ms zs)) ≡ filter (stays c pl) (map entry_of zs)
 queue-left ms pl c small [] t = ap (λ ys. map entry_of (without (1024 + c) ys)) (drop-nil ms)
 queue-left ms pl c small (z ∷ zs) t = ap (λ ys. map entry_of (without (1024 + c) ys)) (drop-cons ms z zs)
-    ∙ go z (kind z) t (has z ms) refl (cases_eq z (1024 + c)) (queue-left ms pl c small zs (tells-tail ms pl c z zs t))
+    ∙ go z (kind z) t (has z ms) refl (cases_eq z (1024 + c)) (queue-left ms pl c small zs (reports-tail ms pl c z zs t))
   where
     rest : List QueueEntry
     rest = filter (stays c pl) (map entry_of zs)
@@ -231,7 +231,7 @@ queue-left ms pl c small (z ∷ zs) t = ap (λ ys. map entry_of (without (1024 +
     stay : (y : ℕ) → stays c pl (entry_of y) ≡ true → y ≢ 1024 + c → (b : Bool) → b ≡ false
         → map entry_of (without (1024 + c) (drop_each ms zs)) ≡ filter (stays c pl) (map entry_of zs)
         → map entry_of (without (1024 + c) (cond b (drop_each ms zs) (y ∷ drop_each ms zs))) ≡ filter (stays c pl) (entry_of y ∷ map entry_of zs)
-    stay y passes other b no_more less = grind (arith, nat_tests, kept, cond-true)
+    stay y passes other b implied less = grind (arith, nat_tests, kept, cond-true)
 
     goes : (y : ℕ) → stays c pl (entry_of y) ≡ false → (b : Bool) → (b ≡ true) ⊎ (y ≡ 1024 + c)
         → map entry_of (without (1024 + c) (drop_each ms zs)) ≡ filter (stays c pl) (map entry_of zs)
@@ -240,7 +240,7 @@ queue-left ms pl c small (z ∷ zs) t = ap (λ ys. map entry_of (without (1024 +
     goes y fails false (inl e) less = absurd (false≢true e)
     goes y fails false (inr same) less = grind (arith, nat_tests, left, cond-false)
 
-    go : (y : ℕ) → Kind y → Tells ms pl c (y ∷ zs) → (b : Bool) → has y ms ≡ b → (y ≡ 1024 + c) ⊎ (y ≢ 1024 + c)
+    go : (y : ℕ) → Kind y → Reports ms pl c (y ∷ zs) → (b : Bool) → has y ms ≡ b → (y ≡ 1024 + c) ⊎ (y ≢ 1024 + c)
         → map entry_of (without (1024 + c) (drop_each ms zs)) ≡ filter (stays c pl) (map entry_of zs)
         → map entry_of (without (1024 + c) (cond (has y ms) (drop_each ms zs) (y ∷ drop_each ms zs))) ≡ filter (stays c pl) (entry_of y ∷ map entry_of zs)
     go y k t true e d less = grind (arith, nat_tests, has-in y, goes y, message-is y, has y)

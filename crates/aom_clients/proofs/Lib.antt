@@ -1,6 +1,6 @@
 mod Members
 mod Chains
-mod Rings
+mod CircularLists
 mod RingSteps
 mod Places
 mod Entries

@@ -3,7 +3,7 @@ use Rattle.std.proofs.Common.{◌≡◌, ◌⊎◌, ◌∙◌, ℕ, Bool, true, 
 use Rattle.std.specs.Prelude.{◌==◌, ◌≢◌}
 use Rattle.std.proofs.lemmas.Bool.{cases_eq, eq-eqb, ne_eqb, cond-true, cond-false}
 use Rattle.aom_clients.specs.Lists.{IsIn, IsOnce}
-use Rattle.aom_clients.specs.Clients.{State, client_after, client_at, first_client, first_there}
+use Rattle.aom_clients.specs.Clients.{ClientsState, client_after, client_at, first_client, first_there}
 use Rattle.aom_clients.specs.Table.{has_cell}
 
 -- the list from a client on
@@ -57,11 +57,11 @@ from-next c (x ∷ xs) once inside = go (cases_eq x c) (from-next c xs once.1)
         from-later c x xs apart ∙ later (other apart) ∙ ap (λ ys. c ∷ ys) (sym (from-behind x xs (client_after c xs) (λ d e. after-in c d xs e) once.0))
         ∙ ap (λ o. c ∷ from o (x ∷ xs)) (sym next)
 
-pub looked : (s : State) (c : ℕ) (xs : List ℕ) → IsOnce xs → IsIn c xs → has_cell (client_at s c) ≡ false →
+pub looked : (s : ClientsState) (c : ℕ) (xs : List ℕ) → IsOnce xs → IsIn c xs → has_cell (client_at s c) ≡ false →
     first_there s (from (Some c) xs) ≡ first_there s (from (client_after c xs) xs)
 looked s c xs once inside none = ap (first_there s) (from-next c xs once inside)
     ∙ cond-false (has_cell (client_at s c)) (Some c) (first_there s (from (client_after c xs) xs)) none
 
-pub found : (s : State) (c : ℕ) (xs : List ℕ) → IsOnce xs → IsIn c xs → has_cell (client_at s c) ≡ true → first_there s (from (Some c) xs) ≡ Some c
+pub found : (s : ClientsState) (c : ℕ) (xs : List ℕ) → IsOnce xs → IsIn c xs → has_cell (client_at s c) ≡ true → first_there s (from (Some c) xs) ≡ Some c
 found s c xs once inside some = ap (first_there s) (from-next c xs once inside)
     ∙ cond-true (has_cell (client_at s c)) (Some c) (first_there s (from (client_after c xs) xs)) some

@@ -8,8 +8,8 @@ use Rattle.aom_clients.specs.declared.client.Client.{Client}
 use Rattle.aom_clients.specs.declared.client.Client.TheVariants.{Unconnected}
 use Rattle.aom_clients.specs.declared.place.MessagePlace.{MessagePlace}
 use Rattle.aom_clients.specs.Table.{server_of, released}
-use Rattle.aom_clients.specs.Clients.{State}
-use Rattle.aom_clients.specs.Nodes.{IsKept, is_connecting_at, is_leaving, is_open_at, named_by, slots_of, state_of}
+use Rattle.aom_clients.specs.Clients.{ClientsState}
+use Rattle.aom_clients.specs.Nodes.{ClientTablesAgree, is_connecting_at, is_leaving, is_open_at, named_by, slots_of, state_of}
 use Rattle.aom_clients.proofs.Kept.{sized-as}
 use Rattle.aom_clients.proofs.Steps.{client}
 use Rattle.aom_clients.proofs.Tables.{alike-same}
@@ -36,7 +36,7 @@ slots-still x = grind arith
 
 -- ---- all clients
 
-module _ (cl : List Client) (pl : List MessagePlace) (q cn ss st : Table) (r : IsKept cl pl q cn ss st) (s : State) (is : state_of cl pl q ss st ≡ s) (c : ℕ)
+module _ (cl : List Client) (pl : List MessagePlace) (q cn ss st : Table) (r : ClientTablesAgree cl pl q cn ss st) (s : ClientsState) (is : state_of cl pl q ss st ≡ s) (c : ℕ)
     (few : c < length cl) where
   abbrev pub after : List Client
   after = slice_set cl c (released (client cl c))
@@ -47,7 +47,7 @@ module _ (cl : List Client) (pl : List MessagePlace) (q cn ss st : Table) (r : I
     | inr apart ↦ ap f (get_or-set_other cl c d (released (client cl c)) Unconnected apart)
   ]
 
-  pub released-kept : IsKept after pl q cn ss st
+  pub released-kept : ClientTablesAgree after pl q cn ss st
   released-kept = record {
     sized = sized-as _ _ _ _ _ _ _ _ _ _ _ _ (length-set cl c (released (client cl c))) refl (alike-same q) (alike-same cn) (alike-same ss) (alike-same st) r.sized;
     entries = record {

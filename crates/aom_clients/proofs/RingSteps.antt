@@ -7,9 +7,9 @@ use Rattle.std.proofs.lemmas.Bool.{cond-true, cond-false, eq-eqb}
 use Rattle.std.proofs.lemmas.List.{get_or_read, length-set, length-replicate}
 use Rattle.std.proofs.Math.Seq.{take-append_seam}
 use Rattle.aom_clients.specs.Lists.{Table, IsIn, IsOnce, IsFree, IsSound, empty, list_at, with_list, without, first_of, after_node}
-use Rattle.aom_clients.specs.Rings.{AreOwn, IsChain, IsRinged, lists_from, node_at}
-use Rattle.aom_clients.proofs.Rings.{at, lists-seen, ringed-push, ringed-unlink, one-more, last-below, p-below, n-below, counted-one, sound, node-below}
-use Rattle.aom_clients.proofs.Rings.{list-below}
+use Rattle.aom_clients.specs.CircularLists.{AreOwn, IsChain, AreCircularLists, lists_from, node_at}
+use Rattle.aom_clients.proofs.CircularLists.{at, lists-seen, circular-push, circular-unlink, one-more, last-below, p-below, n-below, counted-one, sound, node-below}
+use Rattle.aom_clients.proofs.CircularLists.{list-below}
 
 small_test : (m n : ℕ) → m < n → nat_lt m n ≡ true
 small_test m n h = grind arith
@@ -19,11 +19,11 @@ module _ (A B : List ℕ) (H : List (Option ℕ)) (C : List ℕ) where
   abbrev pub view : Table
   view = record { lists = lists_from A (length H) C; nodes = length H }
 
-  module _ (t : Table) (is : view ≡ t) (r : IsRinged A B H C (lists_from A (length H) C)) where
+  module _ (t : Table) (is : view ≡ t) (r : AreCircularLists A B H C (lists_from A (length H) C)) where
     -- a node goes behind a list
     pub record Pushed (l x p e k : ℕ) : Type 0 where
       pub fits : k + 1 < 65536
-      pub ringed : IsRinged (slice_set (slice_set A p x) x e) (slice_set (slice_set B x p) e x) (slice_set H x (Some l)) (slice_set C l (k + 1))
+      pub circular : AreCircularLists (slice_set (slice_set A p x) x e) (slice_set (slice_set B x p) e x) (slice_set H x (Some l)) (slice_set C l (k + 1))
           (lists_from (slice_set (slice_set A p x) x e) (length (slice_set H x (Some l))) (slice_set C l (k + 1)))
       pub seen : record { lists = lists_from (slice_set (slice_set A p x) x e) (length (slice_set H x (Some l))) (slice_set C l (k + 1)); nodes = length (slice_set H x (Some l)) }
           ≡ with_list l (list_at t l ++ x ∷ []) t
@@ -35,14 +35,14 @@ module _ (A B : List ℕ) (H : List (Option ℕ)) (C : List ℕ) where
     pub last-within : (l x p e : ℕ) → l < length t.lists → x < t.nodes → IsFree t x → p ≡ get_or B e p → e ≡ length H + l → p < length A
     last-within l x p e small node free p_is e_is =
         let inside : l < length C = listed l small in
-        let the_end : length H + l < length B = omega (arith, r.befores_long, inside) in
+        let the_end : length H + l < length B = omega (arith, r.predecessors_long, inside) in
         let p_was : slice_index B (length H + l) ≡ p = sym (get_or_read B (length H + l) p the_end (subst (λ n. p ≡ get_or B n p) e_is p_is) 0) in
         omega (
           arith,
           p_was,
           last-below A B H C (lists_from A (length H) C) r l x inside (omega (arith, node, ap (λ s. s.nodes) is))
               (λ m i. free.nowhere m (subst (λ s. IsIn x (list_at s m)) is i)),
-          r.afters_long,
+          r.successors_long,
         )
 
     pub pushed : (l x p e k : ℕ) → l < length t.lists → x < t.nodes → IsFree t x → p ≡ get_or B e p → e ≡ length H + l → k ≡ get_or C l k → Pushed l x p e k
@@ -51,22 +51,22 @@ module _ (A B : List ℕ) (H : List (Option ℕ)) (C : List ℕ) where
         let below : x < length H = omega (arith, node, ap (λ s. s.nodes) is) in
         let absent : (m : ℕ) → IsIn x (at (lists_from A (length H) C) m) → ⊥ = λ m i. free.nowhere m (subst (λ s. IsIn x (list_at s m)) is i) in
         let old = lists_from A (length H) C in
-        let the_end : length H + l < length B = omega (arith, r.befores_long, inside) in
+        let the_end : length H + l < length B = omega (arith, r.predecessors_long, inside) in
         let p_was : slice_index B (length H + l) ≡ p = sym (get_or_read B (length H + l) p the_end (subst (λ n. p ≡ get_or B n p) e_is p_is) 0) in
         let k_was : slice_index C l ≡ k = sym (get_or_read C l k inside k_is 0) in
-        let ringed : IsRinged (slice_set (slice_set A p x) x e) (slice_set (slice_set B x p) e x) (slice_set H x (Some l)) (slice_set C l (k + 1))
-        (slice_set old l (at old l ++ x ∷ [])) = grind (arith, nat_tests, ringed-push A B H C old r l x inside below absent) in
-        let lists_now = lists-seen _ _ _ _ _ ringed in
+        let circular : AreCircularLists (slice_set (slice_set A p x) x e) (slice_set (slice_set B x p) e x) (slice_set H x (Some l)) (slice_set C l (k + 1))
+        (slice_set old l (at old l ++ x ∷ [])) = grind (arith, nat_tests, circular-push A B H C old r l x inside below absent) in
+        let lists_now = lists-seen _ _ _ _ _ circular in
         record {
           fits = omega (arith, k_was, one-more A B H C old r l x inside below absent, r.few, inside);
-          ringed = subst (IsRinged _ _ _ _) (sym lists_now) ringed;
+          circular = subst (AreCircularLists _ _ _ _) (sym lists_now) circular;
           seen = grind (arith, nat_tests, length-set H x (Some l));
         }
 
     -- a node leaves its list
     pub record Unlinked (l x p n k : ℕ) : Type 0 where
       pub counted : 0 < k
-      pub ringed : IsRinged (slice_set A p n) (slice_set B n p) (slice_set H x None) (slice_set C l (k - 1))
+      pub circular : AreCircularLists (slice_set A p n) (slice_set B n p) (slice_set H x None) (slice_set C l (k - 1))
           (lists_from (slice_set A p n) (length (slice_set H x None)) (slice_set C l (k - 1)))
       pub seen : record { lists = lists_from (slice_set A p n) (length (slice_set H x None)) (slice_set C l (k - 1)); nodes = length (slice_set H x None) }
           ≡ with_list l (without x (list_at t l)) t
@@ -76,8 +76,8 @@ module _ (A B : List ℕ) (H : List (Option ℕ)) (C : List ℕ) where
         let j : IsIn x (at (lists_from A (length H) C) l) = subst (λ s. IsIn x (list_at s l)) (sym is) i in
         let small = node-below A B H C (lists_from A (length H) C) r x l j in (
           small,
-          omega (arith, small, r.afters_long),
-          omega (arith, small, r.befores_long),
+          omega (arith, small, r.successors_long),
+          omega (arith, small, r.predecessors_long),
           list-below A B H C (lists_from A (length H) C) r x l j,
         )
 
@@ -93,18 +93,18 @@ module _ (A B : List ℕ) (H : List (Option ℕ)) (C : List ℕ) where
         let p_was : slice_index B x ≡ p = sym (get_or_read B x p has.2 p_is 0) in
         let n_was : slice_index A x ≡ n = sym (get_or_read A x n has.1 n_is 0) in
         let k_was : slice_index C l ≡ k = sym (get_or_read C l k has.3 k_is 0) in
-        let ringed : IsRinged (slice_set A p n) (slice_set B n p) (slice_set H x None) (slice_set C l (k - 1)) (slice_set old l (without x (at old l))) =
-        grind (arith, nat_tests, ringed-unlink A B H C old r l x j) in
-        let lists_now = lists-seen _ _ _ _ _ ringed in
+        let circular : AreCircularLists (slice_set A p n) (slice_set B n p) (slice_set H x None) (slice_set C l (k - 1)) (slice_set old l (without x (at old l))) =
+        grind (arith, nat_tests, circular-unlink A B H C old r l x j) in
+        let lists_now = lists-seen _ _ _ _ _ circular in
         record {
           counted = omega (arith, k_was, counted-one A B H C old r l x j);
-          ringed = subst (IsRinged _ _ _ _) (sym lists_now) ringed;
+          circular = subst (AreCircularLists _ _ _ _) (sym lists_now) circular;
           seen = grind (arith, nat_tests, length-set H x None);
         }
 
     -- what the links say of the first node, and of the next
     pub first-is : (l : ℕ) → l < length t.lists → node_at (length H) (slice_index A (length H + l)) ≡ first_of (list_at t l)
-    first-is l small = go (at (lists_from A (length H) C) l) refl (r.rings l (listed l small)) ∙ ap (λ s. first_of (list_at s l)) is
+    first-is l small = go (at (lists_from A (length H) C) l) refl (r.circular_lists l (listed l small)) ∙ ap (λ s. first_of (list_at s l)) is
       where
         go : (xs : List ℕ) → at (lists_from A (length H) C) l ≡ xs →
             IsChain A B (length H + l) xs (length H + l) → node_at (length H) (slice_index A (length H + l)) ≡ first_of (at (lists_from A (length H) C) l)
@@ -116,7 +116,7 @@ module _ (A B : List ℕ) (H : List (Option ℕ)) (C : List ℕ) where
     next-is l x i =
         let j : IsIn x (at (lists_from A (length H) C) l) = subst (λ s. IsIn x (list_at s l)) (sym is) i in
         walk_to (length H + l) (at (lists_from A (length H) C) l) (r.once l) (λ y k. node-below A B H C (lists_from A (length H) C) r y l k)
-        (r.rings l (list-below A B H C (lists_from A (length H) C) r x l j)) j ∙ ap (λ s. after_node x (list_at s l)) is
+        (r.circular_lists l (list-below A B H C (lists_from A (length H) C) r x l j)) j ∙ ap (λ s. after_node x (list_at s l)) is
       where
         behind : (y : ℕ) (ys : List ℕ) → ((z : ℕ) → IsIn z ys → z < length H) → IsChain A B y ys (length H + l) → node_at (length H) (slice_index A y) ≡ first_of ys
         behind y [] below c = grind (arith, nat_tests, cond-false)
@@ -134,32 +134,32 @@ module _ (A B : List ℕ) (H : List (Option ℕ)) (C : List ℕ) where
 abbrev nobody : List ℕ
 nobody = []
 
-abbrev homeless_one : Option ℕ
-homeless_one = None
+abbrev unlisted_node_one : Option ℕ
+unlisted_node_one = None
 
 -- the links as they are at first: each place is linked to itself
-pub ringed-empty : (A B : List ℕ) (H : List (Option ℕ)) (C : List ℕ) (n m : ℕ) → n + m ≤ 65536 → AreOwn A (n + m) → AreOwn B (n + m)
-    → H ≡ replicate n homeless_one → C ≡ replicate m 0 → IsRinged A B H C (replicate m nobody)
-ringed-empty A B H C n m few a b h k = record {
-  rings = λ l small. subst (λ i. IsChain A B (i + l) (at (replicate m nobody) l) (i + l)) (sym long_h) (subst
+pub circular-empty : (A B : List ℕ) (H : List (Option ℕ)) (C : List ℕ) (n m : ℕ) → n + m ≤ 65536 → AreOwn A (n + m) → AreOwn B (n + m)
+    → H ≡ replicate n unlisted_node_one → C ≡ replicate m 0 → AreCircularLists A B H C (replicate m nobody)
+circular-empty A B H C n m few a b h k = record {
+  circular_lists = λ l small. subst (λ i. IsChain A B (i + l) (at (replicate m nobody) l) (i + l)) (sym long_h) (subst
       (λ xs. IsChain A B (n + l) xs (n + l)) (sym (none l)) (a.own (n + l) (omega (arith, small, long_c)), b.own (n + l) (omega (arith, small, long_c))));
-  home = λ x l i. elim (subst (IsIn x) (none l) i) [ ];
-  there = λ x l e. absurd (nothing l (sym (homeless x) ∙ e));
+  owner_list = λ x l i. elim (subst (IsIn x) (none l) i) [ ];
+  there = λ x l e. absurd (nothing l (sym (unlisted_node x) ∙ e));
   once = λ l. subst IsOnce (sym (none l)) tt;
   counted = λ l. zeros l ∙ sym (ap length (none l));
   every = length-replicate m nobody ∙ sym long_c;
-  afters_long = omega (arith, a.long, long_h, long_c);
-  befores_long = omega (arith, b.long, long_h, long_c);
+  successors_long = omega (arith, a.long, long_h, long_c);
+  predecessors_long = omega (arith, b.long, long_h, long_c);
   few = omega (arith, few, long_h, long_c);
 }
   where
     long_h : length H ≡ n
-    long_h = ap length h ∙ length-replicate n homeless_one
+    long_h = ap length h ∙ length-replicate n unlisted_node_one
 
     long_c : length C ≡ m
     long_c = ap length k ∙ length-replicate {A = ℕ} m 0
 
-    nothing : (l : ℕ) → homeless_one ≡ Some l → ⊥
+    nothing : (l : ℕ) → unlisted_node_one ≡ Some l → ⊥
     nothing l e = cc
 
     same : {X : Type 0} (d : X) (k i : ℕ) → get_or (replicate k d) i d ≡ d
@@ -169,24 +169,24 @@ ringed-empty A B H C n m few a b h k = record {
     none : (l : ℕ) → at (replicate m nobody) l ≡ nobody
     none l = same nobody m l
 
-    homeless : (x : ℕ) → slice_index_or H x homeless_one ≡ homeless_one
-    homeless x = ap (λ hs. slice_index_or hs x homeless_one) h ∙ same homeless_one n x
+    unlisted_node : (x : ℕ) → slice_index_or H x unlisted_node_one ≡ unlisted_node_one
+    unlisted_node x = ap (λ hs. slice_index_or hs x unlisted_node_one) h ∙ same unlisted_node_one n x
 
     zeros : (l : ℕ) → slice_index C l ≡ 0
     zeros l = ap (λ cs. slice_index cs l) k ∙ same 0 m l
 
 -- the same as contracts see it
 pub record Emptied (A B : List ℕ) (H : List (Option ℕ)) (C : List ℕ) (n m : ℕ) : Type 0 where
-  pub ringed : IsRinged A B H C (lists_from A (length H) C)
+  pub circular : AreCircularLists A B H C (lists_from A (length H) C)
   pub seen : record { lists = lists_from A (length H) C; nodes = length H } ≡ empty n m
 
 pub emptied : (A B : List ℕ) (H : List (Option ℕ)) (C : List ℕ) (n m : ℕ) → n + m ≤ 65536 → AreOwn A (n + m) → AreOwn B (n + m)
-    → H ≡ replicate n homeless_one → C ≡ replicate m 0 → Emptied A B H C n m
+    → H ≡ replicate n unlisted_node_one → C ≡ replicate m 0 → Emptied A B H C n m
 emptied A B H C n m few a b h k =
-    let ringed = ringed-empty A B H C n m few a b h k in
-    let lists_now = lists-seen A B H C (replicate m nobody) ringed in
+    let circular = circular-empty A B H C n m few a b h k in
+    let lists_now = lists-seen A B H C (replicate m nobody) circular in
     record {
-      ringed = subst (IsRinged A B H C) (sym lists_now) ringed;
+      circular = subst (AreCircularLists A B H C) (sym lists_now) circular;
       seen = grind (arith, nat_tests, length-replicate);
     }
 

@@ -13,11 +13,11 @@ use Rattle.aom_clients.specs.declared.client.Client.TheVariants.{Unconnected, Co
 use Rattle.aom_clients.specs.declared.place.MessagePlace.{MessagePlace}
 use Rattle.aom_clients.specs.declared.place.MessagePlace.TheVariants.{Free, Queued}
 use Rattle.aom_clients.specs.declared.entry.QueueEntry.{QueueEntry}
-use Rattle.aom_clients.specs.declared.entry.Taken.{Taken}
+use Rattle.aom_clients.specs.declared.entry.TakenEntry.{TakenEntry}
 use Rattle.aom_clients.specs.Table.{is_queued, held_place, completion, sender}
-use Rattle.aom_clients.specs.Clients.{MessageBelow, IsNumbered, State, client_at, place_at, queue_at, sessions_at, with_client, with_queue, first_entry, taking}
+use Rattle.aom_clients.specs.Clients.{MessageBelow, IsNumbered, ClientsState, client_at, place_at, queue_at, sessions_at, with_client, with_queue, first_entry, taking}
 use Rattle.aom_clients.specs.Clients.{taken, after_next, opened, going, gone, parted, after_complete, after_next_gone, is_no_connect_of, is_no_close_of}
-use Rattle.aom_clients.specs.Nodes.{entry_of, is_connect_node, slots_of, named_by, state_of, Waits, AreSized, AreEntries, AreConnects, AreNamed, IsKept}
+use Rattle.aom_clients.specs.Nodes.{entry_of, is_connect_node, slots_of, named_by, state_of, Waits, AreSized, AreEntries, AreConnects, AreNamed, ClientTablesAgree}
 use Rattle.aom_clients.specs.Parts.{ConnectBelow, client_in, taken_of, if_taken, unlisted, held_by, given_up}
 use Rattle.aom_clients.specs.Parts.{slot_freed, place_freed, is_connecting, is_ending, is_apart}
 use Rattle.aom_clients.proofs.Entries.{Kind, kind, message-is, connect-is, close-is, message-no, close-no, no-connect, no-close}
@@ -27,7 +27,7 @@ use Rattle.aom_clients.proofs.Kept.{at-write, sized-as, named-set, named-as, ent
 use Rattle.aom_clients.proofs.Kept.{listed-rest-connect, listed-rest-other, listed-without-connect, listed-without-other}
 use Rattle.aom_clients.proofs.Kept.{sessions-client, sessions-open, sessions-part, sent-taken, sent-complete}
 use Rattle.aom_clients.proofs.Leaving.{place}
-use Rattle.aom_clients.proofs.Waiting.{taken-told}
+use Rattle.aom_clients.proofs.Waiting.{taken-reported}
 use Rattle.aom_clients.proofs.Steps.{client, queued-of, IsAsking, asking, asks, IsEnding, ending, NamesNone}
 use Rattle.aom_clients.proofs.Steps.{names-none, client-is, place-is, queue-is, cell, among, waiting-below}
 
@@ -44,28 +44,28 @@ empty (x ∷ xs) e = absurd (none-some x e)
 pub none-taken : (t : Table) (k : ℕ) → None ≡ first_of (list_at t k) → with_list k (rest_of (list_at t k)) t ≡ t
 none-taken t k e = grind (arith, nat_tests, empty, set-get_or t.lists k)
 
-queue-none : (cl : List Client) (pl : List MessagePlace) (q cn ss st : Table) (r : IsKept cl pl q cn ss st) (s : State) (is : state_of cl pl q ss st ≡ s)
+queue-none : (cl : List Client) (pl : List MessagePlace) (q cn ss st : Table) (r : ClientTablesAgree cl pl q cn ss st) (s : ClientsState) (is : state_of cl pl q ss st ≡ s)
     (k : ℕ) → None ≡ first_of (list_at q k) → queue_at s k ≡ []
 queue-none cl pl q cn ss st r s is k e = sym (queue-is cl pl q cn ss st r s is k) ∙ ap (map entry_of) (empty (list_at q k) e)
 
-pub sessions-none : (cl : List Client) (pl : List MessagePlace) (q cn ss st : Table) (s : State) (is : state_of cl pl q ss st ≡ s) (k : ℕ)
+pub sessions-none : (cl : List Client) (pl : List MessagePlace) (q cn ss st : Table) (s : ClientsState) (is : state_of cl pl q ss st ≡ s) (k : ℕ)
     → None ≡ first_of (list_at ss k) → sessions_at s k ≡ []
 sessions-none cl pl q cn ss st s is k e = sym (ap (λ t. sessions_at t k) is) ∙ empty (list_at ss k) e
 
 -- a message that was taken has a place among so many
-pub message-below : (x : Option Taken) (n : ℕ) → 1024 ≡ n → IfSome x IsNumbered → IfSome x (λ t. MessageBelow n t.entry)
+pub message-below : (x : Option TakenEntry) (n : ℕ) → 1024 ≡ n → IfSome x IsNumbered → IfSome x (λ t. MessageBelow n t.entry)
 message-below None n e all = all
 message-below (Some t) n e all = subst (λ m. MessageBelow m t.entry) e all.1
 
 -- and the client of a connect among so many
-pub connect-below : (s : State) (es : List QueueEntry) (x : Option Taken) (n : ℕ) → 64 ≡ n → x ≡ first_entry s es → IfSome x IsNumbered →
+pub connect-below : (s : ClientsState) (es : List QueueEntry) (x : Option TakenEntry) (n : ℕ) → 64 ≡ n → x ≡ first_entry s es → IfSome x IsNumbered →
     IfSome x (λ t. ConnectBelow n t.entry)
-connect-below s es x n e told all = grind (arith, nat_tests)
+connect-below s es x n e reported all = grind (arith, nat_tests)
 
 never-held : (p : MessagePlace) (c : ℕ) → held_place p ≡ Queued c → ⊥
 never-held x c e = grind arith
 
-module _ (cl : List Client) (pl : List MessagePlace) (q cn ss st : Table) (r : IsKept cl pl q cn ss st) (s : State) (is : state_of cl pl q ss st ≡ s) where
+module _ (cl : List Client) (pl : List MessagePlace) (q cn ss st : Table) (r : ClientTablesAgree cl pl q cn ss st) (s : ClientsState) (is : state_of cl pl q ss st ≡ s) where
   -- the first entry of a queue leaves -----------------------------------------------------------------------------------------------------
   module _ (k n : ℕ) (inside : k < length s.queues) (first : first_of (list_at q k) ≡ Some n) (small : n < 1152)
       (free : IsFree (with_list k (rest_of (list_at q k)) q) n) where
@@ -76,7 +76,7 @@ module _ (cl : List Client) (pl : List MessagePlace) (q cn ss st : Table) (r : I
     q1 = with_list k ns q
 
     -- the view before
-    abbrev old : State
+    abbrev old : ClientsState
     old = state_of cl pl q ss st
 
     here : k < length q.lists
@@ -136,7 +136,7 @@ module _ (cl : List Client) (pl : List MessagePlace) (q cn ss st : Table) (r : I
     connect-listed c less e = grind (arith, nat_tests, listed-rest-connect, here, shaped)
 
     -- a close leaves no trace but in its queue
-    close-kept : (c : ℕ) → n ≡ 1088 + c → IsKept cl pl q1 cn ss st
+    close-kept : (c : ℕ) → n ≡ 1088 + c → ClientTablesAgree cl pl q1 cn ss st
     close-kept c e = record {
       sized = sized-same;
       entries = entries-less (omega (arith, e));
@@ -151,7 +151,7 @@ module _ (cl : List Client) (pl : List MessagePlace) (q cn ss st : Table) (r : I
 
     -- what the call answers
     taken-is : Some (record { entry = entry_of n; client = client_in pl (entry_of n) }) ≡ first_entry s (queue_at s k)
-    taken-is = taken-told cl pl q cn ss st r s is (entry_of n) ∙ sym (ap (first_entry s) queue-shape)
+    taken-is = taken-reported cl pl q cn ss st r s is (entry_of n) ∙ sym (ap (first_entry s) queue-shape)
 
     -- its client and its message's place are among those that there are
     numbered : (client_in pl (entry_of n) < 64) × MessageBelow 1024 (entry_of n)
@@ -168,7 +168,7 @@ module _ (cl : List Client) (pl : List MessagePlace) (q cn ss st : Table) (r : I
 
     -- it is taken
     pub record IsTaken (e : QueueEntry) : Type 0 where
-      pub kept : IsKept cl (held_by e pl) q1 (unlisted k e cn) ss st
+      pub kept : ClientTablesAgree cl (held_by e pl) q1 (unlisted k e cn) ss st
       pub seen : state_of cl (held_by e pl) q1 ss st ≡ taking e (with_queue k (map entry_of ns) old)
 
     taken-entry : (y : ℕ) → Kind y → n ≡ y → IsTaken (entry_of y)
@@ -199,7 +199,7 @@ module _ (cl : List Client) (pl : List MessagePlace) (q cn ss st : Table) (r : I
     })
     taken-entry _ (close c) e = subst IsTaken (sym (close-is c)) (record { kept = close-kept c e; seen = seen-rest })
 
-    taken-kept : IsKept cl (held_by (entry_of n) pl) q1 (unlisted k (entry_of n) cn) ss st
+    taken-kept : ClientTablesAgree cl (held_by (entry_of n) pl) q1 (unlisted k (entry_of n) cn) ss st
     taken-kept = (taken-entry n (kind n) refl).kept
 
     taken-seen : state_of cl (held_by (entry_of n) pl) q1 ss st ≡ after_next k s
@@ -208,7 +208,7 @@ module _ (cl : List Client) (pl : List MessagePlace) (q cn ss st : Table) (r : I
 
     -- it goes with its server
     pub record IsGone (e : QueueEntry) : Type 0 where
-      pub kept : IsKept (given_up e cl) (place_freed e pl) q1 (unlisted k e cn) ss (slot_freed e st)
+      pub kept : ClientTablesAgree (given_up e cl) (place_freed e pl) q1 (unlisted k e cn) ss (slot_freed e st)
       pub seen : state_of (given_up e cl) (place_freed e pl) q1 ss (slot_freed e st) ≡ going e (with_queue k (map entry_of ns) old)
 
     gone-entry : (y : ℕ) → Kind y → n ≡ y → IsGone (entry_of y)
@@ -246,7 +246,7 @@ module _ (cl : List Client) (pl : List MessagePlace) (q cn ss st : Table) (r : I
         mine = asking (client cl c) (asks k (client cl c) (r.entries.connects k c less (subst (λ x. IsIn x (list_at q k)) e head-in)))
     gone-entry _ (close c) e = subst IsGone (sym (close-is c)) (record { kept = close-kept c e; seen = seen-rest })
 
-    gone-kept : IsKept (given_up (entry_of n) cl) (place_freed (entry_of n) pl) q1 (unlisted k (entry_of n) cn) ss (slot_freed (entry_of n) st)
+    gone-kept : ClientTablesAgree (given_up (entry_of n) cl) (place_freed (entry_of n) pl) q1 (unlisted k (entry_of n) cn) ss (slot_freed (entry_of n) st)
     gone-kept = (gone-entry n (kind n) refl).kept
 
     gone-seen : state_of (given_up (entry_of n) cl) (place_freed (entry_of n) pl) q1 ss (slot_freed (entry_of n) st) ≡ after_next_gone k s
@@ -255,16 +255,16 @@ module _ (cl : List Client) (pl : List MessagePlace) (q cn ss st : Table) (r : I
 
   -- the first entry of a queue was taken, if there is one; t is what is left of the queues -----------------------------------------------
   module _ (k : ℕ) (inside : k < length s.queues) (t : Table) (rest : t ≡ with_list k (rest_of (list_at q k)) q) where
-    pub record IsServed (x : Option Taken) : Type 0 where
-      pub told : x ≡ first_entry s (queue_at s k)
+    pub record IsServed (x : Option TakenEntry) : Type 0 where
+      pub reported : x ≡ first_entry s (queue_at s k)
       pub numbered : IfSome x IsNumbered
       pub drained : IsNone x → queue_at (state_of cl pl t ss st) k ≡ []
-      pub kept : IsKept cl (if_taken held_by x pl) t (if_taken (unlisted k) x cn) ss st
+      pub kept : ClientTablesAgree cl (if_taken held_by x pl) t (if_taken (unlisted k) x cn) ss st
       pub seen : state_of cl (if_taken held_by x pl) t ss st ≡ after_next k s
-      pub gone_kept : IsKept (if_taken given_up x cl) (if_taken place_freed x pl) t (if_taken (unlisted k) x cn) ss (if_taken slot_freed x st)
+      pub gone_kept : ClientTablesAgree (if_taken given_up x cl) (if_taken place_freed x pl) t (if_taken (unlisted k) x cn) ss (if_taken slot_freed x st)
       pub gone_seen : state_of (if_taken given_up x cl) (if_taken place_freed x pl) t ss (if_taken slot_freed x st) ≡ after_next_gone k s
 
-    pub served : (x : Option Taken) (ps : List MessagePlace) → x ≡ taken_of ps (first_of (list_at q k)) → ps ≡ pl →
+    pub served : (x : Option TakenEntry) (ps : List MessagePlace) → x ≡ taken_of ps (first_of (list_at q k)) → ps ≡ pl →
         IfSome (first_of (list_at q k)) (λ n. n < 1152) → IfSome (first_of (list_at q k)) (λ n. IsFree t n) → IsServed x
     served x ps e same below free = subst IsServed (sym (e ∙ ap (λ l. taken_of l (first_of (list_at q k))) same)) (go (first_of (list_at q k)) refl below free)
       where
@@ -272,10 +272,10 @@ module _ (cl : List Client) (pl : List MessagePlace) (q cn ss st : Table) (r : I
         go None first below free =
             let none = queue-none cl pl q cn ss st r s is k (sym first) in
             let same = rest ∙ none-taken q k (sym first) in
-            let kept : IsKept cl pl t cn ss st = subst (λ u. IsKept cl pl u cn ss st) (sym same) r in
+            let kept : ClientTablesAgree cl pl t cn ss st = subst (λ u. ClientTablesAgree cl pl u cn ss st) (sym same) r in
             let seen : state_of cl pl t ss st ≡ s = ap (λ u. state_of cl pl u ss st) same ∙ is in
             record {
-              told = sym (ap (first_entry s) none);
+              reported = sym (ap (first_entry s) none);
               numbered = tt;
               drained = λ _. ap (λ u. queue_at u k) seen ∙ none;
               kept = kept;
@@ -286,12 +286,12 @@ module _ (cl : List Client) (pl : List MessagePlace) (q cn ss st : Table) (r : I
         go (Some n) first below free =
             let apart : IsFree (with_list k (rest_of (list_at q k)) q) n = subst (λ u. IsFree u n) rest free in
             record {
-              told = taken-is k n inside first below apart;
+              reported = taken-is k n inside first below apart;
               numbered = numbered k n inside first below apart;
               drained = λ e. absurd (cc);
-              kept = subst (λ u. IsKept cl (held_by (entry_of n) pl) u (unlisted k (entry_of n) cn) ss st) (sym rest) (taken-kept k n inside first below apart);
+              kept = subst (λ u. ClientTablesAgree cl (held_by (entry_of n) pl) u (unlisted k (entry_of n) cn) ss st) (sym rest) (taken-kept k n inside first below apart);
               seen = ap (λ u. state_of cl (held_by (entry_of n) pl) u ss st) rest ∙ taken-seen k n inside first below apart;
-              gone_kept = subst (λ u. IsKept (given_up (entry_of n) cl) (place_freed (entry_of n) pl) u (unlisted k (entry_of n) cn) ss
+              gone_kept = subst (λ u. ClientTablesAgree (given_up (entry_of n) cl) (place_freed (entry_of n) pl) u (unlisted k (entry_of n) cn) ss
                   (slot_freed (entry_of n) st)) (sym rest) (gone-kept k n inside first below apart);
               gone_seen = ap (λ u. state_of (given_up (entry_of n) cl) (place_freed (entry_of n) pl) u ss (slot_freed (entry_of n) st)) rest
                   ∙ gone-seen k n inside first below apart;
@@ -333,7 +333,7 @@ module _ (cl : List Client) (pl : List MessagePlace) (q cn ss st : Table) (r : I
       pub session-free : IsFree ss c
       session-free = record { nowhere = λ j i. none-some j (sym ask.server ∙ r.connected.has j c i) }
 
-      pub opened-kept : IsKept (slice_set cl c (Open k n slots)) pl q4 cn4 (with_list k (list_at ss k ++ c ∷ []) ss) st
+      pub opened-kept : ClientTablesAgree (slice_set cl c (Open k n slots)) pl q4 cn4 (with_list k (list_at ss k ++ c ∷ []) ss) st
       opened-kept = record {
         sized = sized-as _ _ _ _ _ _ _ _ _ _ _ _ (length-set cl c (Open k n slots)) refl (alike-without q (1024 + c)) (alike-without cn c)
             (alike-with ss k (list_at ss k ++ c ∷ [])) (alike-same st) r.sized;
@@ -351,7 +351,7 @@ module _ (cl : List Client) (pl : List MessagePlace) (q cn ss st : Table) (r : I
           ∙ sym (ap (λ x. opened x (Some n) c (state_of cl pl q ss st)) was) ∙ ap (λ t. opened (client_at t c) (Some n) c t) is
 
     -- without one
-    pub disconnected-kept : IsKept (slice_set cl c Unconnected) pl q4 cn4 ss st
+    pub disconnected-kept : ClientTablesAgree (slice_set cl c Unconnected) pl q4 cn4 ss st
     disconnected-kept = record {
       sized = sized-as _ _ _ _ _ _ _ _ _ _ _ _ (length-set cl c Unconnected) refl (alike-without q (1024 + c)) (alike-without cn c) (alike-same ss)
           (alike-same st) r.sized;
@@ -383,12 +383,12 @@ module _ (cl : List Client) (pl : List MessagePlace) (q cn ss st : Table) (r : I
     abbrev q5 : Table
     q5 = record q { lists = map (without (1088 + c)) q.lists }
 
-    pub parted-kept : IsKept (slice_set cl c next) pl q5 cn (record ss { lists = map (without c) ss.lists }) st
+    pub parted-kept : ClientTablesAgree (slice_set cl c next) pl q5 cn (record ss { lists = map (without c) ss.lists }) st
     parted-kept = record {
       sized = sized-as _ _ _ _ _ _ _ _ _ _ _ _ (length-set cl c next) refl (alike-without q (1088 + c)) (alike-same cn) (alike-without ss c) (alike-same st) r.sized;
       entries = entries-client cl pl q5 c next (among cl pl q cn ss st r s is c small)
           (λ j less i. absurd (end.connecting j (r.entries.connects j c less ((fewer-without q (1088 + c)).each j (1024 + c) i))))
-          (λ j less i. absurd (no_more j i)) (λ m e. absurd (end.opened (r.entries.waits c m e).server (r.entries.waits c m e).open_there))
+          (λ j less i. absurd (implied j i)) (λ m e. absurd (end.opened (r.entries.waits c m e).server (r.entries.waits c m e).open_there))
           (entries-fewer cl pl q q5 (fewer-without q (1088 + c)) (λ d m e j i. stay j d m e i) r.entries);
       listed = listed-without-other q cn (1088 + c) (close-no c) r.listed;
       connected = sessions-part cl ss c next (among cl pl q cn ss st r s is c small) none.server r.connected;
@@ -397,8 +397,8 @@ module _ (cl : List Client) (pl : List MessagePlace) (q cn ss st : Table) (r : I
           (named-set cl (length q.lists) c next (among cl pl q cn ss st r s is c small) (λ j h. absurd (none.named j h)) none.slots r.named);
     }
       where
-        no_more : (j : ℕ) → IsIn (1088 + c) (list_at q5 j) → ⊥
-        no_more j i = (in-without (1088 + c) (1088 + c) (list_at q j) (subst (IsIn (1088 + c)) (at-without q (1088 + c) j) i)).0 refl
+        implied : (j : ℕ) → IsIn (1088 + c) (list_at q5 j) → ⊥
+        implied j i = (in-without (1088 + c) (1088 + c) (list_at q j) (subst (IsIn (1088 + c)) (at-without q (1088 + c) j) i)).0 refl
 
         stay : (j d m : ℕ) → place pl m ≡ Queued d → IsIn m (list_at q j) → IsIn m (list_at q5 j)
         stay j d m e i = subst (IsIn m) (sym (at-without q (1088 + c) j))
@@ -414,7 +414,7 @@ module _ (cl : List Client) (pl : List MessagePlace) (q cn ss st : Table) (r : I
     not-queued (Queued c) some e = false≢true some
     not-queued _ some e = false≢true e
 
-    pub complete-kept : IsKept cl (slice_set pl m Free) q cn ss (record st { lists = map (without m) st.lists })
+    pub complete-kept : ClientTablesAgree cl (slice_set pl m Free) q cn ss (record st { lists = map (without m) st.lists })
     complete-kept = record {
       sized = sized-as _ _ _ _ _ _ _ _ _ _ _ _ refl (length-set pl m Free) (alike-same q) (alike-same cn) (alike-same ss) (alike-without st m) r.sized;
       entries = entries-place cl pl q m Free (omega (arith, below, r.sized.places_long))

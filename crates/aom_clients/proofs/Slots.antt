@@ -6,7 +6,7 @@ use Rattle.std.proofs.lemmas.Bool.Decides.{nat_tests}
 use Rattle.std.proofs.lemmas.List.{length-set, get_or-set_same, get_or-set_other}
 use Rattle.std.proofs.Math.ListN.{get_or-map}
 use Rattle.aom_clients.specs.Lists.{Table, IsIn, list_at, with_list}
-use Rattle.aom_clients.proofs.Rings.{at-set}
+use Rattle.aom_clients.proofs.CircularLists.{at-set}
 use Rattle.aom_clients.proofs.Members.{in-either, in-left, in-right}
 use Rattle.aom_clients.specs.declared.place.MessagePlace.{MessagePlace}
 use Rattle.aom_clients.specs.declared.place.MessagePlace.TheVariants.{Free, Queued, Held, Discarded}

@@ -11,9 +11,9 @@ use Rattle.aom_clients.specs.declared.client.Client.TheVariants.{Unconnected, Co
 use Rattle.aom_clients.specs.declared.place.MessagePlace.{MessagePlace}
 use Rattle.aom_clients.specs.declared.place.MessagePlace.TheVariants.{Free, Queued}
 use Rattle.aom_clients.specs.declared.entry.QueueEntry.TheVariants.{Connect, Message}
-use Rattle.aom_clients.specs.Table.{row, server_of, is_queued, is_out_of, at_gone}
-use Rattle.aom_clients.specs.Clients.{sessions_at, State, client_at, place_at, queue_at, sent_at, with_client, with_place, with_sent, queued}
-use Rattle.aom_clients.specs.Nodes.{entry_of, is_connecting_at, is_leaving, is_open_at, slots_of, named_by, is_held_of, state_of, Waits, IsKept}
+use Rattle.aom_clients.specs.Table.{row, server_of, is_queued, is_out_of, after_server_destroyed}
+use Rattle.aom_clients.specs.Clients.{sessions_at, ClientsState, client_at, place_at, queue_at, sent_at, with_client, with_place, with_sent, queued}
+use Rattle.aom_clients.specs.Nodes.{entry_of, is_connecting_at, is_leaving, is_open_at, slots_of, named_by, is_held_of, state_of, Waits, ClientTablesAgree}
 use Rattle.aom_clients.specs.Parts.{is_connecting, is_ending, is_apart}
 use Rattle.aom_clients.proofs.Entries.{message-is, connect-is, message-no, listed-in}
 use Rattle.aom_clients.proofs.Tables.{alike-same, alike-with, pushed-in, push-keeps, push-has, shown, shown-at, shown-push}
@@ -56,9 +56,9 @@ pub record IsWith (k : ℕ) (x : Client) : Type 0 where
   pub leaving : (j : ℕ) → is_leaving j x ≡ true → j ≡ k
   pub opened : (j : ℕ) → is_open_at j x ≡ true → j ≡ k
   pub named : named_by x ≡ Some k
-  pub gone : server_of (at_gone x) ≡ None
-  pub unnamed : (j : ℕ) → named_by (at_gone x) ≡ Some j → ⊥
-  pub slots : slots_of (at_gone x) ≤ 64
+  pub gone : server_of (after_server_destroyed x) ≡ None
+  pub unnamed : (j : ℕ) → named_by (after_server_destroyed x) ≡ Some j → ⊥
+  pub slots : slots_of (after_server_destroyed x) ≤ 64
 
 pub is-with : (k : ℕ) (x : Client) → server_of x ≡ Some k → IsWith k x
 is-with k Unconnected e = absurd (none-some k e)
@@ -137,7 +137,7 @@ pub queued-of : (p : MessagePlace) → is_queued p ≡ true → (c : ℕ) × (p 
 queued-of (Queued c) e = (c, refl)
 queued-of _ e = absurd (false≢true e)
 
-module _ (cl : List Client) (pl : List MessagePlace) (q cn ss st : Table) (r : IsKept cl pl q cn ss st) (s : State) (is : state_of cl pl q ss st ≡ s) where
+module _ (cl : List Client) (pl : List MessagePlace) (q cn ss st : Table) (r : ClientTablesAgree cl pl q cn ss st) (s : ClientsState) (is : state_of cl pl q ss st ≡ s) where
   -- the words of contracts and those of the lists
   pub client-is : (c : ℕ) → client cl c ≡ client_at s c
   client-is c = ap (λ t. client_at t c) is
@@ -192,7 +192,7 @@ module _ (cl : List Client) (pl : List MessagePlace) (q cn ss st : Table) (r : I
     to = Connecting k slots
 
     pub record Connected : Type 0 where
-      pub kept : IsKept (slice_set cl c (Connecting k slots)) pl (with_list k (list_at q k ++ (1024 + c) ∷ []) q) (with_list k (list_at cn k ++ c ∷ []) cn) ss st
+      pub kept : ClientTablesAgree (slice_set cl c (Connecting k slots)) pl (with_list k (list_at q k ++ (1024 + c) ∷ []) q) (with_list k (list_at cn k ++ c ∷ []) cn) ss st
       pub seen : state_of (slice_set cl c (Connecting k slots)) pl (with_list k (list_at q k ++ (1024 + c) ∷ []) q) ss st
           ≡ queued k (Connect c) (with_client c (Connecting k slots) s)
 
@@ -271,7 +271,7 @@ module _ (cl : List Client) (pl : List MessagePlace) (q cn ss st : Table) (r : I
     placed = omega (arith, below, r.sized.places_long)
 
     pub record Sent : Type 0 where
-      pub kept : IsKept cl pl2 q2 cn ss st2
+      pub kept : ClientTablesAgree cl pl2 q2 cn ss st2
       pub seen : state_of cl pl2 q2 ss st2 ≡ queued k (Message m) (with_sent c (sent_at s c ++ m ∷ []) (with_place m (Queued c) s))
 
     pub sent : Sent

@@ -6,7 +6,7 @@ use Rattle.std.proofs.lemmas.Bool.{cases_eq}
 use Rattle.std.proofs.lemmas.List.{map-set, map-append, length-set, length-map, get_or-set_same, get_or-set_other}
 use Rattle.std.proofs.Math.ListN.{get_or-map}
 use Rattle.aom_clients.specs.Lists.{Table, IsIn, list_at, with_list, without}
-use Rattle.aom_clients.proofs.Rings.{at-set-cases}
+use Rattle.aom_clients.proofs.CircularLists.{at-set-cases}
 use Rattle.aom_clients.proofs.Members.{in-without, in-either}
 
 -- a table with as many lists and nodes

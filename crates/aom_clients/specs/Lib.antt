@@ -1,5 +1,5 @@
 pub mod Lists
-pub mod Rings
+pub mod CircularLists
 pub mod Table
 pub mod Clients
 pub mod Nodes

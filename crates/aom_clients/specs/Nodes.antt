@@ -8,7 +8,7 @@ use Rattle.aom_clients.specs.declared.place.MessagePlace.TheVariants.{Free, Queu
 use Rattle.aom_clients.specs.declared.entry.QueueEntry.{QueueEntry}
 use Rattle.aom_clients.specs.declared.entry.QueueEntry.TheVariants.{Connect, Message, Close}
 use Rattle.aom_clients.specs.Table.{server_of, is_queued, is_out_of}
-use Rattle.aom_clients.specs.Clients.{State}
+use Rattle.aom_clients.specs.Clients.{ClientsState}
 
 -- the entry that a node stands for
 abbrev pub entry_of : ℕ → QueueEntry
@@ -56,7 +56,7 @@ is_held_of c (Held client) = client == c
 is_held_of c other = false
 
 -- the state that the lists tell: the queues by their nodes, and the messages with a slot in the first 64 lists
-abbrev pub state_of : List Client → List MessagePlace → Table → Table → Table → State
+abbrev pub state_of : List Client → List MessagePlace → Table → Table → Table → ClientsState
 state_of clients places queues sessions sent =
     record { clients = clients; places = places; queues = map (map entry_of) queues.lists; sessions = sessions.lists; sent = take 64 sent.lists }
 
@@ -110,7 +110,7 @@ pub record AreNamed (clients : List Client) (cells : ℕ) : Type 0 where
   pub slots : (c : ℕ) → slots_of (slice_index_or clients c Unconnected) ≤ 64
 
 -- all of these
-pub record IsKept (clients : List Client) (places : List MessagePlace) (queues connects sessions sent : Table) : Type 0 where
+pub record ClientTablesAgree (clients : List Client) (places : List MessagePlace) (queues connects sessions sent : Table) : Type 0 where
   pub sized : AreSized clients places queues connects sessions sent
   pub entries : AreEntries clients places queues
   pub listed : AreConnects queues connects

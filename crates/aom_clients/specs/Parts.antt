@@ -7,7 +7,7 @@ use Rattle.aom_clients.specs.declared.place.MessagePlace.{MessagePlace}
 use Rattle.aom_clients.specs.declared.place.MessagePlace.TheVariants.{Free}
 use Rattle.aom_clients.specs.declared.entry.QueueEntry.{QueueEntry}
 use Rattle.aom_clients.specs.declared.entry.QueueEntry.TheVariants.{Connect, Message, Close}
-use Rattle.aom_clients.specs.declared.entry.Taken.{Taken}
+use Rattle.aom_clients.specs.declared.entry.TakenEntry.{TakenEntry}
 use Rattle.aom_clients.specs.Table.{row, sender, held_place}
 use Rattle.aom_clients.specs.Nodes.{entry_of}
 
@@ -23,12 +23,12 @@ client_in places (Message m) = sender (slice_index_or places m Free)
 client_in places (Close c) = c
 
 -- what is taken with a node that stood first in a queue
-abbrev pub taken_of : List MessagePlace → Option ℕ → Option Taken
+abbrev pub taken_of : List MessagePlace → Option ℕ → Option TakenEntry
 taken_of places None = None
 taken_of places (Some n) = Some (record { entry = entry_of n; client = client_in places (entry_of n) })
 
 -- what the entry that was taken makes of a part; nothing is made of it where none was
-abbrev pub if_taken : {X : Type 0} → (QueueEntry → X → X) → Option Taken → X → X
+abbrev pub if_taken : {X : Type 0} → (QueueEntry → X → X) → Option TakenEntry → X → X
 if_taken f None x = x
 if_taken f (Some t) x = f t.entry x
 
@@ -37,7 +37,7 @@ abbrev message_at : QueueEntry → Option ℕ
 message_at (Message m) = Some m
 message_at other = None
 
-abbrev pub message_in : Option Taken → Option ℕ
+abbrev pub message_in : Option TakenEntry → Option ℕ
 message_in None = None
 message_in (Some t) = message_at t.entry
 

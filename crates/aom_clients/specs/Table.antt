@@ -43,11 +43,11 @@ row Dead = row_of (Some Died) (Some Died) None None
 row (Dying server session) = row_of (Some Died) (Some Died) None None
 
 -- what a client with a session is at once its server went
-abbrev pub at_gone : Client → Client
-at_gone (Open server session slots) = Gone
-at_gone (Closing server session) = Unconnected
-at_gone (Dying server session) = Dead
-at_gone other = other
+abbrev pub after_server_destroyed : Client → Client
+after_server_destroyed (Open server session slots) = Gone
+after_server_destroyed (Closing server session) = Unconnected
+after_server_destroyed (Dying server session) = Dead
+after_server_destroyed other = other
 
 -- the cell of its session
 abbrev pub session_of : Client → Option ℕ
@@ -106,8 +106,8 @@ held_place other = other
 
 -- how a message that was taken is completed: its client is told, unless it is discarded
 abbrev pub completion : MessagePlace → Option Completion
-completion (Held client) = Some (record { client = client; is_told = true })
-completion (Discarded client) = Some (record { client = client; is_told = false })
+completion (Held client) = Some (record { client = client; is_reported = true })
+completion (Discarded client) = Some (record { client = client; is_reported = false })
 completion other = None
 
 -- the message waits or is held, and is of that client

@@ -1,6 +1,6 @@
 //! What a client is at, and what it may do then.
 ghost use Rattle.std.specs.Prelude.{◌≡◌};
-ghost use Rattle.aom_clients.specs.Table.{row, session_of, has_cell, released, at_gone};
+ghost use Rattle.aom_clients.specs.Table.{row, session_of, has_cell, released, after_server_destroyed};
 
 use crate::CommandRefusal;
 
@@ -97,8 +97,8 @@ impl Client {
     }
 
     /// What it is at once the server of its session went.
-    pub(crate) fn at_gone(self) -> Client
-        ensures { result ≡ at_gone self }
+    pub(crate) fn after_server_destroyed(self) -> Client
+        ensures { result ≡ after_server_destroyed self }
     {
         match self {
             Client::Open { .. } => Client::Gone,

@@ -8,9 +8,13 @@ ghost use Rattle.aom_clients.specs.Nodes.{is_open_at, named_by};
 ghost use Rattle.aom_clients.specs.Parts.{IsLeft, is_connecting, is_ending, is_apart};
 
 use crate::entry::{CLIENTS, PLACES, close_node, connect_node};
-use crate::parts::{client_of, free_place, free_slot, give_up, hold, queue_close, take};
+use crate::parts::{
+    abandon_connect, client_of, free_place, free_slot, mark_held, queue_close, take,
+};
 use crate::withdrawal::{SLOTS, release, withdraw_all};
-use crate::{Client, CommandRefusal, Completion, Lists, MessagePlace, QueueEntry, Server, Taken};
+use crate::{
+    Client, CommandRefusal, Completion, Lists, MessagePlace, QueueEntry, Server, TakenEntry,
+};
 use arrayvec::ArrayVec;
 use std::alloc::{AllocError, Global};
 use std::marker::Model;
@@ -31,14 +35,14 @@ pub struct Clients {
 }
 
 impl Model for Clients {
-    ghost use Rattle.aom_clients.specs.Clients.{State};
-    ghost use Rattle.aom_clients.specs.Nodes.{state_of, IsKept};
+    ghost use Rattle.aom_clients.specs.Clients.{ClientsState};
+    ghost use Rattle.aom_clients.specs.Nodes.{state_of, ClientTablesAgree};
 
-    ghost Value = { State };
+    ghost Value = { ClientsState };
 
     ghost view = { λ a. state_of a.clients.items a.places.items a.queues a.sessions a.sent };
 
-    ghost invariant = { λ a. IsKept a.clients.items a.places.items a.queues a.connects a.sessions a.sent };
+    ghost invariant = { λ a. ClientTablesAgree a.clients.items a.places.items a.queues a.connects a.sessions a.sent };
 }
 
 impl Clients {
@@ -115,7 +119,7 @@ impl Clients {
     }
 
     /// What waits in the server's queue behind so many others, and the client that it is of.
-    pub fn waiting(&self, server: u16, ahead: usize) -> Option<Taken>
+    pub fn waiting(&self, server: u16, ahead: usize) -> Option<TakenEntry>
         requires { server < length self.now.queues }
         ensures value { result ≡ option_map (taken_entry self.now) (slice_get (queue_at self.now server) ahead) }
         ensures place { IfSome result (λ t. MessageBelow 1024 t.entry) }
@@ -124,7 +128,7 @@ impl Clients {
         let node = self.queues.at(server, ahead)?;
         let entry = QueueEntry::of_node(node);
         let client = client_of(&self.places, entry);
-        Some(Taken { entry, client })
+        Some(TakenEntry { entry, client })
     }
 
     /// Whether the server takes one session more.
@@ -336,14 +340,14 @@ impl Clients {
     }
 
     /// Takes the first entry of a server's queue, as a dispatch of the server begins.
-    pub fn next(&mut self, server: u16) -> Option<Taken>
+    pub fn next(&mut self, server: u16) -> Option<TakenEntry>
         requires { server < length self.old.queues }
         ensures taken { result ≡ first_entry self.old (queue_at self.old server) }
         ensures after { self.new ≡ after_next server self.old }
         ensures below { IfSome result (λ t. IsNumbered t) }
     {
         let taken = take(&mut self.queues, &mut self.connects, &self.places, server);
-        hold(&mut self.places, taken);
+        mark_held(&mut self.places, taken);
         taken
     }
 
@@ -423,7 +427,7 @@ impl Clients {
     pub fn complete(&mut self, place: u16) -> Completion
         requires place { place < 1024 }
         requires taken { IsSome (completion (place_at self.old place)) }
-        ensures told { Some result ≡ completion (place_at self.old place) }
+        ensures reported { Some result ≡ completion (place_at self.old place) }
         ensures after { self.new ≡ after_complete place self.old }
         ensures below { result.client < 64 }
     {
@@ -435,7 +439,7 @@ impl Clients {
 
     /// Takes the first entry of the queue of a server that goes: a connect and a message are completed with -15, and of a close nothing
     /// comes here. The caller asks until there is none.
-    pub fn next_gone(&mut self, server: u16) -> Option<Taken>
+    pub fn take_from_destroyed(&mut self, server: u16) -> Option<TakenEntry>
         requires { server < length self.old.queues }
         ensures taken { result ≡ first_entry self.old (queue_at self.old server) }
         ensures after { self.new ≡ after_next_gone server self.old }
@@ -443,7 +447,7 @@ impl Clients {
         ensures empty { IsNone result → queue_at self.new server ≡ [] }
     {
         let taken = take(&mut self.queues, &mut self.connects, &self.places, server);
-        give_up(&mut self.clients, taken);
+        abandon_connect(&mut self.clients, taken);
         free_slot(&mut self.sent, taken);
         free_place(&mut self.places, taken);
         taken
@@ -460,7 +464,7 @@ impl Clients {
     {
         let client = self.sessions.take_first(server)? as u8;
         release(&mut self.sent, client);
-        self.clients[client as usize] = self.clients[client as usize].at_gone();
+        self.clients[client as usize] = self.clients[client as usize].after_server_destroyed();
         Some(client)
     }
 }

@@ -13,7 +13,7 @@ pub enum QueueEntry {
 
 /// An entry that was taken from a queue, and the client that it is of.
 #[derive(Clone, Copy)]
-pub struct Taken {
+pub struct TakenEntry {
     pub entry: QueueEntry,
     pub client: u8,
 }

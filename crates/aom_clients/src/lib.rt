@@ -10,7 +10,7 @@
 //! `Lists` has many lists of numbers in one table, of which a number is in one list at most, once. Contracts see a plain list of node
 //! numbers for each list (`Table` of `specs/Lists.antt`). A node is found by its number: it comes last into a list, and leaves the list
 //! that it is in, at a cost that no length changes. Inside, each list is a ring of links through its nodes and an end of its own
-//! (`specs/Rings.antt`).
+//! (`specs/CircularLists.antt`).
 #![tactic(auto)]
 
 mod client;
@@ -25,7 +25,7 @@ mod withdrawal;
 
 pub use client::{Client, NO_CELL};
 pub use clients::Clients;
-pub use entry::{QueueEntry, Taken};
+pub use entry::{QueueEntry, TakenEntry};
 pub use lists::Lists;
 pub use place::{Completion, MessagePlace};
 pub use refusal::CommandRefusal;

@@ -1,6 +1,6 @@
 //! Lists as rings of links in one table.
 ghost use Rattle.std.specs.Prelude.{◌≡◌, ◌<◌, ◌≤◌, ◌+◌, ◌==◌, ◌∷◌, ◌++◌, [], ℕ, Some, None, IfOk, IfSome, length, map, replicate, slice_get, slice_index};
-ghost use Rattle.aom_clients.specs.Rings.{AreOwn, node_at};
+ghost use Rattle.aom_clients.specs.CircularLists.{AreOwn, node_at};
 ghost use Rattle.aom_clients.specs.Lists.{IsIn, IsFree, IsSound, empty, list_at, with_list, without, first_of, rest_of, after_node};
 
 use std::alloc::{AllocError, Global};
@@ -14,7 +14,7 @@ pub struct Lists {
     /// What comes before each.
     before: Vec<u16>,
     /// In which list each node is.
-    homes: Vec<Option<u16>>,
+    owner_lists: Vec<Option<u16>>,
     /// How many nodes each list has.
     counts: Vec<u16>,
 }
@@ -22,13 +22,13 @@ pub struct Lists {
 impl Model for Lists {
     ghost use Rattle.std.specs.Prelude.{length};
     ghost use Rattle.aom_clients.specs.Lists.{Table};
-    ghost use Rattle.aom_clients.specs.Rings.{IsRinged, lists_from};
+    ghost use Rattle.aom_clients.specs.CircularLists.{AreCircularLists, lists_from};
 
     ghost Value = { Table };
 
-    ghost view = { λ l. record { lists = lists_from l.after.items (length l.homes.items) l.counts.items; nodes = length l.homes.items } };
+    ghost view = { λ l. record { lists = lists_from l.after.items (length l.owner_lists.items) l.counts.items; nodes = length l.owner_lists.items } };
 
-    ghost invariant = { λ l. IsRinged l.after.items l.before.items l.homes.items l.counts.items (lists_from l.after.items (length l.homes.items) l.counts.items) };
+    ghost invariant = { λ l. AreCircularLists l.after.items l.before.items l.owner_lists.items l.counts.items (lists_from l.after.items (length l.owner_lists.items) l.counts.items) };
 }
 
 impl Lists {
@@ -39,12 +39,12 @@ impl Lists {
     {
         let after = own_numbers(alloc, nodes + lists)?;
         let before = own_numbers(alloc, nodes + lists)?;
-        let homes = no_homes(alloc, nodes)?;
+        let owner_lists = no_owner_lists(alloc, nodes)?;
         let counts = no_nodes(alloc, lists)?;
         Ok(Lists {
             after,
             before,
-            homes,
+            owner_lists,
             counts,
         })
     }
@@ -73,11 +73,11 @@ impl Lists {
     }
 
     /// The list that the node is in.
-    pub fn home(&self, node: u16) -> Option<u16>
+    pub fn owner_list(&self, node: u16) -> Option<u16>
         ensures within { IfSome result (λ list. IsIn node (list_at self.now list)) }
         ensures free { result ≡ None → IsFree self.now node }
     {
-        self.homes.get(node as usize).copied().flatten()
+        self.owner_lists.get(node as usize).copied().flatten()
     }
 
     /// The first node of the list.
@@ -85,8 +85,8 @@ impl Lists {
         requires { list < length self.now.lists }
         ensures { result ≡ first_of (list_at self.now list) }
     {
-        let end = self.homes.len() + list as usize;
-        node_after(&self.after, self.homes.len(), end)
+        let end = self.owner_lists.len() + list as usize;
+        node_after(&self.after, self.owner_lists.len(), end)
     }
 
     /// The node that comes after this one in its list.
@@ -94,7 +94,7 @@ impl Lists {
         requires { IsIn node (list_at self.now list) }
         ensures { result ≡ after_node node (list_at self.now list) }
     {
-        node_after(&self.after, self.homes.len(), node as usize)
+        node_after(&self.after, self.owner_lists.len(), node as usize)
     }
 
     /// The node of the list behind so many others.
@@ -118,13 +118,13 @@ impl Lists {
         requires free { IsFree self.old node }
         ensures { self.new ≡ with_list list (list_at self.old list ++ node ∷ []) self.old }
     {
-        let end = self.homes.len() + list as usize;
+        let end = self.owner_lists.len() + list as usize;
         let last = self.before[end];
         self.after[last as usize] = node;
         self.before[node as usize] = last;
         self.after[node as usize] = end as u16;
         self.before[end] = node;
-        self.homes[node as usize] = Some(list);
+        self.owner_lists[node as usize] = Some(list);
         self.counts[list as usize] += 1;
     }
 
@@ -148,7 +148,7 @@ impl Lists {
         ensures free { IsFree self.new node }
     {
         self.in_order();
-        if let Some(list) = self.home(node) {
+        if let Some(list) = self.owner_list(node) {
             self.unlink(list, node);
         }
     }
@@ -163,7 +163,7 @@ impl Lists {
         let next = self.after[node as usize];
         self.after[last as usize] = next;
         self.before[next as usize] = last;
-        self.homes[node as usize] = None;
+        self.owner_lists[node as usize] = None;
         self.counts[list as usize] -= 1;
     }
 }
@@ -188,7 +188,7 @@ fn own_numbers(alloc: Global, places: usize) -> Result<Vec<u16>, AllocError>
 }
 
 /// So many nodes that are in no list.
-fn no_homes(alloc: Global, nodes: usize) -> Result<Vec<Option<u16>>, AllocError>
+fn no_owner_lists(alloc: Global, nodes: usize) -> Result<Vec<Option<u16>>, AllocError>
     ensures { IfOk result (λ v. v.items ≡ replicate nodes None) }
 {
     vec![in alloc; None; nodes]

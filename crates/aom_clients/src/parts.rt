@@ -5,7 +5,7 @@ ghost use Rattle.aom_clients.specs.Clients.{MessageBelow};
 ghost use Rattle.aom_clients.specs.Parts.{ConnectBelow, CanClose, client_in, taken_of, if_taken, message_in, unlisted, held_by, given_up, slot_freed, place_freed, close_queued};
 
 use crate::entry::close_node;
-use crate::{Client, Lists, MessagePlace, QueueEntry, Taken};
+use crate::{Client, Lists, MessagePlace, QueueEntry, TakenEntry};
 
 /// Takes the first entry off a server's queue, with the client that it is of; a connect is listed no more.
 pub fn take(
@@ -13,7 +13,7 @@ pub fn take(
     connects: &mut Lists,
     places: &[MessagePlace],
     server: u16,
-) -> Option<Taken>
+) -> Option<TakenEntry>
     requires queue { server < length queues.old.lists }
     requires list { server < length connects.old.lists }
     requires nodes { queues.old.nodes ≡ 1152 }
@@ -28,7 +28,7 @@ pub fn take(
     let entry = QueueEntry::of_node(node);
     let client = client_of(places, entry);
     unlist(connects, server, entry);
-    Some(Taken { entry, client })
+    Some(TakenEntry { entry, client })
 }
 
 /// The client that an entry is of.
@@ -53,7 +53,7 @@ fn unlist(connects: &mut Lists, server: u16, entry: QueueEntry)
 }
 
 /// The place of the message that was taken, if one was.
-fn message_in(taken: Option<Taken>) -> Option<u16>
+fn message_in(taken: Option<TakenEntry>) -> Option<u16>
     ensures { result ≡ message_in taken }
 {
     match taken?.entry {
@@ -63,7 +63,7 @@ fn message_in(taken: Option<Taken>) -> Option<u16>
 }
 
 /// A message that is taken is held.
-pub fn hold(places: &mut [MessagePlace], taken: Option<Taken>)
+pub fn mark_held(places: &mut [MessagePlace], taken: Option<TakenEntry>)
     requires { IfSome taken (λ t. MessageBelow (length places.old) t.entry) }
     ensures { places.new ≡ if_taken held_by taken places.old }
 {
@@ -73,7 +73,7 @@ pub fn hold(places: &mut [MessagePlace], taken: Option<Taken>)
 }
 
 /// A client whose connect went is unconnected.
-pub fn give_up(clients: &mut [Client], taken: Option<Taken>)
+pub fn abandon_connect(clients: &mut [Client], taken: Option<TakenEntry>)
     requires { IfSome taken (λ t. ConnectBelow (length clients.old) t.entry) }
     ensures { clients.new ≡ if_taken given_up taken clients.old }
 {
@@ -85,7 +85,7 @@ pub fn give_up(clients: &mut [Client], taken: Option<Taken>)
 }
 
 /// A message that went holds no slot.
-pub fn free_slot(sent: &mut Lists, taken: Option<Taken>)
+pub fn free_slot(sent: &mut Lists, taken: Option<TakenEntry>)
     ensures { sent.new ≡ if_taken slot_freed taken sent.old }
 {
     if let Some(place) = message_in(taken) {
@@ -94,7 +94,7 @@ pub fn free_slot(sent: &mut Lists, taken: Option<Taken>)
 }
 
 /// A message that went has no place.
-pub fn free_place(places: &mut [MessagePlace], taken: Option<Taken>)
+pub fn free_place(places: &mut [MessagePlace], taken: Option<TakenEntry>)
     requires { IfSome taken (λ t. MessageBelow (length places.old) t.entry) }
     ensures { places.new ≡ if_taken place_freed taken places.old }
 {

@@ -18,7 +18,7 @@ pub enum MessagePlace {
 #[derive(Clone, Copy)]
 pub struct Completion {
     pub client: u8,
-    pub is_told: bool,
+    pub is_reported: bool,
 }
 
 impl MessagePlace {
@@ -68,11 +68,11 @@ impl MessagePlace {
         match self {
             MessagePlace::Held { client } => Some(Completion {
                 client,
-                is_told: true,
+                is_reported: true,
             }),
             MessagePlace::Discarded { client } => Some(Completion {
                 client,
-                is_told: false,
+                is_reported: false,
             }),
             MessagePlace::Free | MessagePlace::Queued { .. } => None,
         }

@@ -6,12 +6,12 @@ use Rattle.std.proofs.lemmas.Bool.Decides.{nat_tests}
 use Rattle.std.proofs.lemmas.List.Elements.{All-nil, All-cons}
 use Rattle.std.proofs.lemmas.List.Sums.{sum_by-cons}
 use Rattle.aom_image.specs.Image.{Image}
-use Rattle.aom_codec.specs.Spelling.{provider_sort, class_number, thing_number, argument_number, role_number, gives_byte, result_number, kind_byte}
+use Rattle.aom_codec.specs.Serialization.{provider_sort, class_number, thing_number, argument_number, role_number, gives_byte, result_number, kind_byte}
 use Rattle.aom_image.specs.WellFormed.{ThingFits, ProviderFits, KindFits, ClassFits, ParentFits, OverFits, FamiliesFit, is_server_kind, is_server}
 use Rattle.aom_image.specs.WellFormed.{ArgumentFits, GivesFits, MethodFits, HeaderFits, ClassesFit, MethodsFit}
 use Rattle.aom_instructions.specs.Fits.{InstrFits, limits}
 use Rattle.aom_instructions.specs.Versions.{includes}
-use Rattle.aom_codec.specs.Codec.{Codec, ◌>>=◌, byte, is_between, pair, always, keep, FitMany, limited}
+use Rattle.aom_codec.specs.Codec.{Codec, ◌>>=◌, byte, is_between_dispatches, next_u16, always, keep, FitMany, limited}
 use Rattle.aom_codec.specs.Instructions.{Bounded, instruction}
 use Rattle.aom_codec.specs.Format.{version as version_format, parent_from, parent, over, index_from, class_from, class_or_none, thing_from, thing}
 use Rattle.aom_codec.specs.Format.{argument_from, argument, last_provider, sort_of_provider, provider, kind, kind_sort, class, count_server, role, flags}
@@ -33,7 +33,7 @@ use Rattle.aom_image.specs.declared.method.MethodFlags.{MethodFlags}
 use Rattle.aom_image.specs.declared.method.States.{States}
 use Rattle.aom_image.specs.declared.method.Method.{Method}
 use Rattle.aom_codec.proofs.Lengths.{head_of, rest_of}
-use Rattle.aom_codec.proofs.Laws.{guard_ok, ok_is, passed, FitEach, fit_each, no_more, one_more, marked_or, made_of, kept}
+use Rattle.aom_codec.proofs.Laws.{guard_ok, ok_is, passed, FitEach, fit_each, implied, one_more, marked_or, made_of, kept}
 use Rattle.aom_codec.proofs.Returning.{index_returns, took}
 use Rattle.aom_codec.proofs.Formats.{between_true, between_is}
 use Rattle.aom_codec.proofs.InstructionFits.{in_range, fits}
@@ -44,7 +44,7 @@ all_fit : {X : Type 0} (c : Codec X) (n : ℕ) (xs : List X) → FitMany (always
 all_fit {X} c n xs fits = by_each n xs (fit_each (always c) keep tt n xs fits)
   where
     by_each : (n : ℕ) (xs : List X) → FitEach (always c) keep tt n xs → All c.Fits xs
-    by_each _ _ no_more = All-nil c.Fits
+    by_each _ _ implied = All-nil c.Fits
     by_each _ _ (one_more {n = n} x xs here more) = All-cons c.Fits x xs here (by_each n xs more)
 
 fit_all : {X : Type 0} (c : Codec X) (xs : List X) → All c.Fits xs → FitMany (always c) keep tt (length xs) xs
@@ -57,7 +57,7 @@ each P Q xs f h = λ k d lt. f (slice_index_or xs k d) (h k d lt)
 limited_byte_fits : (low high n : ℕ) → high < 256 → low ≤ n → n ≤ high → (limited byte low high).Fits n
 limited_byte_fits low high n small p q = (omega arith, between_is low high n p q)
 
-limited_pair_fits : (low high n : ℕ) → high < 65536 → low ≤ n → n ≤ high → (limited pair low high).Fits n
+limited_pair_fits : (low high n : ℕ) → high < 65536 → low ≤ n → n ≤ high → (limited next_u16 low high).Fits n
 limited_pair_fits low high n small p q = (omega arith, between_is low high n p q)
 
 -- ---- numbers that name things
@@ -123,7 +123,7 @@ gives_number_fits classes (gives.Left c) few h = grind (arith, leb_below c 0xfff
 -- ---- classes
 
 -- a version that reads the last sort has tokens
-has_tokens : (version : Version) → is_between 0 (last_provider version) 3 ≡ true → includes version versions.Two ≡ true
+has_tokens : (version : Version) → is_between_dispatches 0 (last_provider version) 3 ≡ true → includes version versions.Two ≡ true
 has_tokens x h = grind arith
 
 provider_in : (version : Version) (natives : ℕ) (p : Provider) → (provider version natives).Fits p → ProviderFits version natives p
@@ -236,7 +236,7 @@ record ClassesIn (version : Version) (classes natives servers : ℕ) (cs : List 
 
 classes_in : (version : Version) (classes natives n servers : ℕ) (cs : List ClassDecl) →
     servers ≤ 8 → FitEach (class version classes natives) count_server servers n cs → ClassesIn version classes natives servers cs
-classes_in version classes natives _ servers _ low no_more = record {
+classes_in version classes natives _ servers _ low implied = record {
   each = All-nil (ClassFits version classes natives);
   parents = All-nil (λ c. ParentFits version classes c.kind c.parent);
   few = omega arith;
@@ -306,7 +306,7 @@ method_in_range version classes methods m f =
 
 method_fits : (version : Version) (classes methods : ℕ) (m : Method) →
     classes ≤ 256 → methods ≤ 1024 → MethodFits version classes methods m → OverFits version methods m.over → (method version classes methods).Fits m
-method_fits version classes methods m few some_methods h overs =
+method_fits version classes methods m few some_methods h overridden_methods =
     let l = limits version classes methods (length m.code) in
     let bounded : Bounded l = record { classes = few; methods = some_methods; places = h.code_length } in
     let small = gives_small m.gives in (
@@ -330,7 +330,7 @@ method_fits version classes methods m few some_methods h overs =
                         gives_number_fits classes m.gives few h.gives,
                         (
                           limited_pair_fits 1 1024 (length m.code) (lit< tt) h.some_code h.code_length,
-                          grind (arith, over_fits version methods m.over some_methods overs, fit_all, each (InstrFits l), fits l),
+                          grind (arith, over_fits version methods m.over some_methods overridden_methods, fit_all, each (InstrFits l), fits l),
                         ),
                       ),
                     ),
@@ -380,7 +380,7 @@ image_in_range i f =
       };
       families = record {
         parents = cs.parents;
-        overs = each (method v classes methods).Fits (λ m. OverFits v methods m.over) i.methods (λ m h. over_in v methods m.over h.0.1.1.1.1.1.1.1.1.1.1.0) ms;
+        overridden_methods = each (method v classes methods).Fits (λ m. OverFits v methods m.over) i.methods (λ m h. over_in v methods m.over h.0.1.1.1.1.1.1.1.1.1.1.0) ms;
       };
     }
 
@@ -395,7 +395,7 @@ image_fits i header cs ms families =
         (
           classes_fit v classes i.header.natives 0 i.classes cs.count header.natives cs.each families.parents (omega (arith, cs.servers)),
           fit_all (method v classes methods) i.methods
-              (λ k d lt. let m = slice_index_or i.methods k d in method_fits v classes methods m cs.count ms.count (ms.each k d lt) (families.overs k d lt)),
+              (λ k d lt. let m = slice_index_or i.methods k d in method_fits v classes methods m cs.count ms.count (ms.each k d lt) (families.overridden_methods k d lt)),
         ),
       ),
       refl,

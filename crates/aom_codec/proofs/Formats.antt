@@ -14,12 +14,12 @@ use Rattle.aom_instructions.specs.declared.kinds.LargeKind.{LargeKind}
 use Rattle.aom_instructions.specs.declared.kinds.SmallKind.{SmallKind}
 use Rattle.aom_instructions.specs.declared.mnemonic.Mnemonic.{Mnemonic}
 use Rattle.aom_instructions.specs.declared.operand.Operands.{Operands}
-use Rattle.aom_codec.specs.Spelling.{class_number, result_number, kind_byte}
-use Rattle.aom_codec.specs.Codec.{Codec, byte, pair, quad, nothing, fixed, always, keep, FitMany, unused, is_between, limited}
+use Rattle.aom_codec.specs.Serialization.{class_number, result_number, kind_byte}
+use Rattle.aom_codec.specs.Codec.{Codec, byte, next_u16, next_u32, nothing, fixed, always, keep, FitMany, unused, is_between_dispatches, limited}
 use Rattle.aom_codec.specs.Instructions.{all_operands, instruction, known, large_operand, opcode, small_operand}
-use Rattle.aom_codec.specs.Spelling.{provider_sort, native_number}
+use Rattle.aom_codec.specs.Serialization.{provider_sort, native_number}
 use Rattle.aom_instructions.specs.Fits.{limits}
-use Rattle.aom_codec.specs.Format.{class_from, class_or_none, version, untold, of_family, parent_from, parent, over, thing, argument, opening_fields, opening}
+use Rattle.aom_codec.specs.Format.{class_from, class_or_none, version, unreported, of_family, parent_from, parent, over, thing, argument, opening_fields, opening}
 use Rattle.aom_codec.specs.Format.{last_provider, provider_from, provider, no_session, bare, session_class, active_part, active_provider, server_part}
 use Rattle.aom_codec.specs.Format.{server_numbers, kind, budget, kind_sort, class_parts, class, count_server, role, flags, states, result_sort, gives_from}
 use Rattle.aom_codec.specs.Format.{result, method_parts, method, image_parts, opening_of, image}
@@ -35,8 +35,8 @@ use Rattle.aom_image.specs.declared.class.ClassKind.TheVariants as kinds
 use Rattle.aom_image.specs.declared.class.Provider.{Provider}
 use Rattle.aom_image.specs.declared.method.Gives.{Gives}
 use Rattle.aom_instructions.specs.declared.instr.Instr.{Instr}
-use Rattle.aom_codec.proofs.Laws.{IsCodec, guard_ok, ok_is, of_byte, of_pair, of_quad, of_nothing, of_fixed, of_checked, of_next, of_after, of_seen}
-use Rattle.aom_codec.proofs.Laws.{of_choose, of_many_from, of_many, of_unused, unused_fits, FitEach, fit_each, no_more, one_more}
+use Rattle.aom_codec.proofs.Laws.{IsCodec, guard_ok, ok_is, of_byte, of_pair, next_u32_of, of_nothing, of_fixed, of_checked, of_next, of_after, of_seen}
+use Rattle.aom_codec.proofs.Laws.{of_choose, of_many_from, of_many, of_unused, unused_fits, FitEach, fit_each, implied, one_more}
 use Rattle.aom_codec.proofs.Returning.{version_returns, parent_returns, index_returns, class_returns, thing_returns, argument_returns, role_returns}
 use Rattle.aom_codec.proofs.Returning.{flags_returns, states_returns, gives_returns, result_number_returns}
 use Rattle.aom_codec.proofs.InstructionFits.{operands_in_range}
@@ -46,46 +46,46 @@ use Rattle.aom_codec.proofs.ImageLemmas.{some_given}
 -- ---- numbers that name things
 
 class_or_none_laws : (classes : ℕ) → IsCodec (class_or_none classes)
-class_or_none_laws classes = of_seen _ _ pair (record { at = λ x y fits e. class_returns classes x y e }) of_pair
+class_or_none_laws classes = of_seen _ _ next_u16 (record { at = λ x y fits e. class_returns classes x y e }) of_pair
 
 thing_laws : (classes : ℕ) → IsCodec (thing classes)
-thing_laws classes = of_seen _ _ pair (record { at = λ x y fits e. thing_returns classes x y e }) of_pair
+thing_laws classes = of_seen _ _ next_u16 (record { at = λ x y fits e. thing_returns classes x y e }) of_pair
 
 argument_laws : (classes : ℕ) → IsCodec (argument classes)
-argument_laws classes = of_seen _ _ pair (record { at = λ x y fits e. argument_returns classes x y e }) of_pair
+argument_laws classes = of_seen _ _ next_u16 (record { at = λ x y fits e. argument_returns classes x y e }) of_pair
 
 limited_laws : (c : Codec ℕ) (low high : ℕ) → IsCodec c → IsCodec (limited c low high)
-limited_laws c low high laws = of_checked c (is_between low high) LimitPassed laws
+limited_laws c low high laws = of_checked c (is_between_dispatches low high) LimitPassed laws
 
 fixed_byte_laws : (n : ℕ) (fault : LoadFault) → n < 256 → IsCodec (fixed byte n fault)
 fixed_byte_laws n fault lt = of_fixed byte n fault of_byte lt
 
-fixed_pair_laws : (n : ℕ) (fault : LoadFault) → n < 65536 → IsCodec (fixed pair n fault)
-fixed_pair_laws n fault lt = of_fixed pair n fault of_pair lt
+fixed_pair_laws : (n : ℕ) (fault : LoadFault) → n < 65536 → IsCodec (fixed next_u16 n fault)
+fixed_pair_laws n fault lt = of_fixed next_u16 n fault of_pair lt
 
-fixed_quad_laws : (n : ℕ) (fault : LoadFault) → n < 4294967296 → IsCodec (fixed quad n fault)
-fixed_quad_laws n fault lt = of_fixed quad n fault of_quad lt
+expect_u32_laws : (n : ℕ) (fault : LoadFault) → n < 4294967296 → IsCodec (fixed next_u32 n fault)
+expect_u32_laws n fault lt = of_fixed next_u32 n fault next_u32_of lt
 
 -- ---- header
 
 version_laws : IsCodec version
-version_laws = of_seen _ _ pair (record { at = λ x y fits e. version_returns x y e }) of_pair
+version_laws = of_seen _ _ next_u16 (record { at = λ x y fits e. version_returns x y e }) of_pair
 
 opening_laws : IsCodec opening
 opening_laws = of_seen _ _ opening_fields (record {
   at = λ x y fits e.
       ap (λ (o : Opening). (o.header.version, (o.classes, (o.methods, (o.header.cells, (o.header.messages, (o.header.natives, (o.header.root, o.header.budget)))))))) (sym (ok_is _ y e));
 })
-    (of_after (fixed quad 0x414f494d BadMagic) _ tt (fixed_quad_laws _ _ (lit< tt))
+    (of_after (fixed next_u32 0x414f494d BadMagic) _ tt (expect_u32_laws _ _ (lit< tt))
     (of_next _ _ version_laws (λ _.
-    of_next _ _ (limited_laws pair 0 256 of_pair) (λ classes.
-    of_next _ _ (limited_laws pair 1 1024 of_pair) (λ _.
-    of_next _ _ (limited_laws pair 0 4096 of_pair) (λ _.
-    of_next _ _ (limited_laws pair 0 1024 of_pair) (λ _.
+    of_next _ _ (limited_laws next_u16 0 256 of_pair) (λ classes.
+    of_next _ _ (limited_laws next_u16 1 1024 of_pair) (λ _.
+    of_next _ _ (limited_laws next_u16 0 4096 of_pair) (λ _.
+    of_next _ _ (limited_laws next_u16 0 1024 of_pair) (λ _.
     of_next _ _ (limited_laws byte 0 16 of_byte) (λ _.
     of_after (fixed byte 0 NotZero) _ tt (fixed_byte_laws _ _ (lit< tt))
     (of_next _ _ (class_or_none_laws classes) (λ _.
-    of_after (fixed pair 0 NotZero) _ tt (fixed_pair_laws _ _ (lit< tt)) of_quad))))))))))
+    of_after (fixed next_u16 0 NotZero) _ tt (fixed_pair_laws _ _ (lit< tt)) next_u32_of))))))))))
 
 -- ---- classes
 
@@ -100,10 +100,10 @@ provider_back natives x n low h = grind (arith, nat_tests, pair_is)
 few_providers : (version : Version) → last_provider version ≤ 3
 few_providers x = grind arith
 
-pub between_true : (low high n : ℕ) → is_between low high n ≡ true → (low ≤ n) × (n ≤ high)
+pub between_true : (low high n : ℕ) → is_between_dispatches low high n ≡ true → (low ≤ n) × (n ≤ high)
 between_true low high n h = let p = and_parts (leb low n) (leb n high) h in (leb-true _ _ p.0, leb-true _ _ p.1)
 
-pub between_is : (low high n : ℕ) → low ≤ n → n ≤ high → is_between low high n ≡ true
+pub between_is : (low high n : ℕ) → low ≤ n → n ≤ high → is_between_dispatches low high n ≡ true
 between_is low high n p q = ap (λ b. b && leb n high) (le-leb low n p) ∙ le-leb n high q
 
 provider_laws : (version : Version) (natives : ℕ) → IsCodec (provider version natives)
@@ -119,7 +119,7 @@ bare_laws : IsCodec bare
 bare_laws = of_after (unused 3 byte NotZero) _ (unused_fits 3 byte NotZero) (of_unused 3 byte NotZero of_byte (lit< tt)) no_session_laws
 
 session_class_laws : (classes : ℕ) → IsCodec (session_class classes)
-session_class_laws classes = of_seen _ _ pair (record { at = λ x y fits e. (index_returns classes x y e).0 }) of_pair
+session_class_laws classes = of_seen _ _ next_u16 (record { at = λ x y fits e. (index_returns classes x y e).0 }) of_pair
 
 active_part_laws : (version : Version) (natives : ℕ) → IsCodec (active_part version natives)
 active_part_laws version natives =
@@ -142,22 +142,22 @@ kind_laws version classes natives sort =
     (of_seen (λ _. Ok kinds.Session) (λ _. tt) bare (record { at = λ x y fits e. refl }) bare_laws)))
 
 budget_laws : (k : ClassKind) → IsCodec (budget k)
-budget_laws k = of_checked _ _ _ of_quad
+budget_laws k = of_checked _ _ _ next_u32_of
 
-untold_laws : IsCodec untold
-untold_laws = of_seen (λ _. Ok None) (λ _. tt) nothing (record { at = λ x y fits e. refl }) of_nothing
+unreported_laws : IsCodec unreported
+unreported_laws = of_seen (λ _. Ok None) (λ _. tt) nothing (record { at = λ x y fits e. refl }) of_nothing
 
 -- what a number stands for is spelled as that number
 of_family_laws : (from : ℕ → Result (Option ℕ) LoadFault) → ((n : ℕ) (y : Option ℕ) → from n ≡ Ok y → class_number y ≡ n) → IsCodec (of_family from)
 of_family_laws from returns = of_seen _ _ _ (record { at = λ x y fits e. ap (λ (o : Option ℕ). (o, tt)) (sym (ok_is _ y e)) })
-    (of_next _ _ (of_seen from class_number pair (record { at = λ x y fits e. returns x y e }) of_pair) (λ _. fixed_pair_laws 0 NotZero (lit< tt)))
+    (of_next _ _ (of_seen from class_number next_u16 (record { at = λ x y fits e. returns x y e }) of_pair) (λ _. fixed_pair_laws 0 NotZero (lit< tt)))
 
 parent_laws : (version : Version) (k : ClassKind) (classes : ℕ) → IsCodec (parent version k classes)
-parent_laws versions.One k classes = untold_laws
+parent_laws versions.One k classes = unreported_laws
 parent_laws versions.Two k classes = of_family_laws (parent_from k classes) (parent_returns k classes)
 
 over_laws : (version : Version) (methods : ℕ) → IsCodec (over version methods)
-over_laws versions.One methods = untold_laws
+over_laws versions.One methods = unreported_laws
 over_laws versions.Two methods = of_family_laws (class_from methods) (class_returns methods)
 
 kind_sort_laws : (servers : ℕ) → IsCodec (kind_sort servers)
@@ -170,7 +170,7 @@ class_parts_laws version classes natives servers =
     of_next _ _ (limited_laws byte 0 8 of_byte) (λ count.
     of_next _ _ (kind_laws version classes natives sort) (λ k.
     of_next _ _ (of_many count (thing classes) (thing_laws classes)) (λ _.
-    of_after (unused (8 - count) pair NotZero) _ (unused_fits (8 - count) pair NotZero) (of_unused (8 - count) pair NotZero of_pair (lit< tt))
+    of_after (unused (8 - count) next_u16 NotZero) _ (unused_fits (8 - count) next_u16 NotZero) (of_unused (8 - count) next_u16 NotZero of_pair (lit< tt))
     (of_next _ _ (budget_laws k) (λ _. parent_laws version k classes)))))))
 
 -- the kind that was read is of the byte before it
@@ -181,7 +181,7 @@ pub many_length : {S X : Type 0} (c : S → Codec X) (add : S → X → S) (s : 
 many_length {S} {X} c add s n xs fits = by_each s n xs (fit_each c add s n xs fits)
   where
     by_each : (s : S) (n : ℕ) (xs : List X) → FitEach c add s n xs → length xs ≡ n
-    by_each s _ _ no_more = refl
+    by_each s _ _ implied = refl
     by_each s _ _ (one_more {n = n} x xs here more) = omega (arith, by_each (add s x) n xs more)
 
 class_laws : (version : Version) (classes natives servers : ℕ) → IsCodec (class version classes natives servers)
@@ -200,7 +200,7 @@ small_laws : (k : SmallKind) → IsCodec (small_operand k)
 small_laws k = of_seen _ _ byte (record { at = λ x y fits e. (small_reads k x y e).0 }) of_byte
 
 large_laws : (l : Limits) (k : LargeKind) → IsCodec (large_operand l k)
-large_laws l k = of_seen _ _ quad (record { at = λ x y fits e. (large_reads l k x y fits e).0 }) of_quad
+large_laws l k = of_seen _ _ next_u32 (record { at = λ x y fits e. (large_reads l k x y fits e).0 }) next_u32_of
 
 operands_laws : (l : Limits) (k : Kinds) → IsCodec (all_operands l k)
 operands_laws l k = of_seen _ _ _ (record { at = λ x y fits e. ap (λ (o : Operands). (o.a, (o.b, (o.c, o.d)))) (sym (ok_is _ y e)) })
@@ -244,7 +244,7 @@ result_returns : (classes sort n : ℕ) (y : Gives) → gives_from classes sort 
 result_returns classes sort n y e = result_number_returns classes sort n y e
 
 result_laws : (classes sort : ℕ) → IsCodec (result classes sort)
-result_laws classes sort = of_seen _ _ pair (record { at = λ x y fits e. result_returns classes sort x y e }) of_pair
+result_laws classes sort = of_seen _ _ next_u16 (record { at = λ x y fits e. result_returns classes sort x y e }) of_pair
 
 method_parts_laws : (version : Version) (classes methods : ℕ) → IsCodec (method_parts version classes methods)
 method_parts_laws version classes methods =
@@ -256,9 +256,9 @@ method_parts_laws version classes methods =
     of_next _ _ (limited_laws byte 0 6 of_byte) (λ count.
     of_next _ _ result_sort_laws (λ sort.
     of_next _ _ (of_many count (argument classes) (argument_laws classes)) (λ _.
-    of_after (unused (6 - count) pair NotZero) _ (unused_fits (6 - count) pair NotZero) (of_unused (6 - count) pair NotZero of_pair (lit< tt))
+    of_after (unused (6 - count) next_u16 NotZero) _ (unused_fits (6 - count) next_u16 NotZero) (of_unused (6 - count) next_u16 NotZero of_pair (lit< tt))
     (of_next _ _ (result_laws classes sort) (λ _.
-    of_next _ _ (limited_laws pair 1 1024 of_pair) (λ places.
+    of_next _ _ (limited_laws next_u16 1 1024 of_pair) (λ places.
     of_next _ _ (over_laws version methods) (λ _.
     of_many places (instruction (limits version classes methods places)) (instruction_laws (limits version classes methods places))))))))))))))
 

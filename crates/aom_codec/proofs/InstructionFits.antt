@@ -13,7 +13,7 @@ use Rattle.aom_instructions.specs.declared.mnemonic.Mnemonic.{Mnemonic}
 use Rattle.aom_instructions.specs.declared.operand.Operands.{Operands}
 use Rattle.aom_instructions.specs.declared.version.Version.{Version}
 use Rattle.aom_codec.specs.Instructions.{Bounded, all_operands, instruction, known, opcode}
-use Rattle.aom_codec.specs.Spelling.{large_number, small_byte}
+use Rattle.aom_codec.specs.Serialization.{large_number, small_byte}
 use Rattle.aom_codec.specs.declared.fault.LoadFault.TheVariants.{BadOpcode}
 use Rattle.aom_codec.proofs.Laws.{guard_ok}
 use Rattle.aom_codec.proofs.OperandLaws.{large_reads, large_takes, small_reads, small_takes}

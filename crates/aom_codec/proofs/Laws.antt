@@ -8,8 +8,8 @@ use Rattle.std.proofs.lemmas.List.{take_at, drop_at, take-append-drop, length-ap
 use Rattle.std.proofs.lemmas.Nat.{be_bytes_2, be_bytes_4, from_be_bytes-to_be_bytes_2, from_be_bytes-to_be_bytes_4}
 use Rattle.aom_codec.specs.declared.fault.LoadFault.{LoadFault}
 use Rattle.aom_codec.specs.declared.fault.LoadFault.TheVariants.{Truncated}
-use Rattle.aom_codec.specs.Codec.{Codec, ◌>>=◌, byte_at, byte, number_at, number, pair, quad, nothing, checked, fixed, next, after, seen, many_from, many}
-use Rattle.aom_codec.specs.Codec.{always, keep, read_many, spell_many, FitMany, unused, choose}
+use Rattle.aom_codec.specs.Codec.{Codec, ◌>>=◌, byte_at, byte, number_at, number, next_u16, next_u32, nothing, checked, fixed, next, after, seen, many_from, many}
+use Rattle.aom_codec.specs.Codec.{always, keep, read_many, serialize_many, FitMany, unused, choose}
 
 abbrev pub IsBytes : List ℕ → Type 0
 IsBytes bytes = (i : ℕ) → get_or bytes i 0 < 256
@@ -59,8 +59,8 @@ Takes-then a x b y c p q = record { parts = p.parts ∙ ap (λ (t : List ℕ). x
 
 -- the two laws of a format
 pub record IsCodec {X : Type 0} (c : Codec X) : Type 0 where
-  pub takes : (bytes : List ℕ) (x : X × List ℕ) → IsBytes bytes → c.read bytes ≡ Ok x → Takes bytes (c.spell x.0) x.1 × c.Fits x.0
-  pub again : (x : X) (rest : List ℕ) → c.Fits x → c.read (c.spell x ++ rest) ≡ Ok (x, rest)
+  pub takes : (bytes : List ℕ) (x : X × List ℕ) → IsBytes bytes → c.read bytes ≡ Ok x → Takes bytes (c.serialize x.0) x.1 × c.Fits x.0
+  pub again : (x : X) (rest : List ℕ) → c.Fits x → c.read (c.serialize x ++ rest) ≡ Ok (x, rest)
 
 -- ---- numbers
 
@@ -113,11 +113,11 @@ number_again w wide n rest lt =
 of_number : (w : Width) → IsWide w → IsCodec (number w)
 of_number w wide = record { takes = number_takes w wide; again = number_again w wide }
 
-pub of_pair : IsCodec pair
+pub of_pair : IsCodec next_u16
 of_pair = of_number w16 wide16
 
-pub of_quad : IsCodec quad
-of_quad = of_number w32 wide32
+pub next_u32_of : IsCodec next_u32
+next_u32_of = of_number w32 wide32
 
 -- ---- ways of making formats
 
@@ -130,14 +130,14 @@ of_nothing = record {
 pub of_fixed : (c : Codec ℕ) (n : ℕ) (fault : LoadFault) → IsCodec c → c.Fits n → IsCodec (fixed c n fault)
 of_fixed c n fault laws ok = record { takes = takes; again = again }
   where
-    takes : (bytes : List ℕ) (x : Unit {0} × List ℕ) → IsBytes bytes → (fixed c n fault).read bytes ≡ Ok x → Takes bytes (c.spell n) x.1 × Unit {0}
+    takes : (bytes : List ℕ) (x : Unit {0} × List ℕ) → IsBytes bytes → (fixed c n fault).read bytes ≡ Ok x → Takes bytes (c.serialize n) x.1 × Unit {0}
     takes bytes x fits e =
         let b = bind_ok (c.read bytes) (λ y. cond (eqb y.0 n) (Ok (tt, y.1)) (Err fault)) x e in
         let g = guard_ok (eqb b.0.0 n) fault (tt, b.0.1) x b.2 in
         let t = laws.takes bytes b.0 fits b.1 in
         (grind (arith, nat_tests), tt)
 
-    again : (x : Unit {0}) (rest : List ℕ) → Unit {0} → (fixed c n fault).read (c.spell n ++ rest) ≡ Ok (x, rest)
+    again : (x : Unit {0}) (rest : List ℕ) → Unit {0} → (fixed c n fault).read (c.serialize n ++ rest) ≡ Ok (x, rest)
     again x rest _ = rw (laws.again n rest ok, eq-eqb n n refl) refl
 
 pub of_checked : {X : Type 0} (c : Codec X) (test : X → Bool) (fault : LoadFault) → IsCodec c → IsCodec (checked c test fault)
@@ -146,7 +146,7 @@ of_checked {X} c test fault laws = record {
       let b = bind_ok (c.read bytes) (λ y. cond (test y.0) (Ok y) (Err fault)) x e in
       let g = guard_ok (test b.0.0) fault b.0 x b.2 in
       let t = laws.takes bytes b.0 fits b.1 in
-      subst (λ (y : X × List ℕ). Takes bytes (c.spell y.0) y.1 × (c.Fits y.0 × (test y.0 ≡ true))) g.1 (t.0, (t.1, g.0));
+      subst (λ (y : X × List ℕ). Takes bytes (c.serialize y.0) y.1 × (c.Fits y.0 × (test y.0 ≡ true))) g.1 (t.0, (t.1, g.0));
   again = grind (arith, nat_tests);
 }
 
@@ -157,11 +157,11 @@ of_next {A} {B} a b first second = record {
       let q = bind_ok ((b p.0.0).read p.0.1) (λ z. Ok ((p.0.0, z.0), z.1)) x p.2 in
       let t = first.takes bytes p.0 fits p.1 in
       let u = (second p.0.0).takes p.0.1 q.0 t.0.rest_fits q.1 in
-      let both = Takes-then bytes (a.spell p.0.0) p.0.1 ((b p.0.0).spell q.0.0) q.0.1 t.0 u.0 in
-      subst (λ (y : (A × B) × List ℕ). Takes bytes ((next a b).spell y.0) y.1 × (next a b).Fits y.0) (ok_is ((p.0.0, q.0.0), q.0.1) x q.2) (both, (t.1, u.1));
+      let both = Takes-then bytes (a.serialize p.0.0) p.0.1 ((b p.0.0).serialize q.0.0) q.0.1 t.0 u.0 in
+      subst (λ (y : (A × B) × List ℕ). Takes bytes ((next a b).serialize y.0) y.1 × (next a b).Fits y.0) (ok_is ((p.0.0, q.0.0), q.0.1) x q.2) (both, (t.1, u.1));
   again = λ x rest fits.
-      ap (next a b).read (append_assoc (a.spell x.0) ((b x.0).spell x.1) rest)
-      ∙ ap (λ r. r >>= λ y. (b y.0).read y.1 >>= λ z. Ok ((y.0, z.0), z.1)) (first.again x.0 ((b x.0).spell x.1 ++ rest) fits.0)
+      ap (next a b).read (append_assoc (a.serialize x.0) ((b x.0).serialize x.1) rest)
+      ∙ ap (λ r. r >>= λ y. (b y.0).read y.1 >>= λ z. Ok ((y.0, z.0), z.1)) (first.again x.0 ((b x.0).serialize x.1 ++ rest) fits.0)
       ∙ ap (λ r. r >>= λ z. Ok ((x.0, z.0), z.1)) ((second x.0).again x.1 rest fits.1);
 }
 
@@ -171,9 +171,9 @@ of_after {B} a b ok first second = record {
       let p = bind_ok (a.read bytes) (λ y. b.read y.1) x e in
       let t = first.takes bytes p.0 fits p.1 in
       let u = second.takes p.0.1 x t.0.rest_fits p.2 in
-      (Takes-then bytes (a.spell tt) p.0.1 (b.spell x.0) x.1 t.0 u.0, u.1);
-  again = λ x rest fits. ap (after a b).read (append_assoc (a.spell tt) (b.spell x) rest)
-      ∙ ap (λ r. r >>= λ y. b.read y.1) (first.again tt (b.spell x ++ rest) ok) ∙ second.again x rest fits;
+      (Takes-then bytes (a.serialize tt) p.0.1 (b.serialize x.0) x.1 t.0 u.0, u.1);
+  again = λ x rest fits. ap (after a b).read (append_assoc (a.serialize tt) (b.serialize x) rest)
+      ∙ ap (λ r. r >>= λ y. b.read y.1) (first.again tt (b.serialize x ++ rest) ok) ∙ second.again x rest fits;
 }
 
 -- what stands for a value is what the value is spelled as
@@ -187,8 +187,8 @@ of_seen {A} {B} there back c returns laws = record {
       let q = bind_ok (there p.0.0) (λ z. Ok (z, p.0.1)) x p.2 in
       let t = laws.takes bytes p.0 fits p.1 in
       let same : back q.0 ≡ p.0.0 = returns.at p.0.0 q.0 t.1 q.1 in
-      subst (λ (y : B × List ℕ). Takes bytes (c.spell (back y.0)) y.1 × (c.Fits (back y.0) × (there (back y.0) ≡ Ok y.0))) (ok_is (q.0, p.0.1) x q.2)
-      (subst (λ (a : A). Takes bytes (c.spell a) p.0.1) (sym same) t.0, (subst c.Fits (sym same) t.1, ap there same ∙ q.1));
+      subst (λ (y : B × List ℕ). Takes bytes (c.serialize (back y.0)) y.1 × (c.Fits (back y.0) × (there (back y.0) ≡ Ok y.0))) (ok_is (q.0, p.0.1) x q.2)
+      (subst (λ (a : A). Takes bytes (c.serialize a) p.0.1) (sym same) t.0, (subst c.Fits (sym same) t.1, ap there same ∙ q.1));
   again = grind (arith, nat_tests, back);
 }
 
@@ -197,39 +197,39 @@ of_choose x c d one two = grind arith
 
 -- values that fit a number of formats, one after another
 pub data FitEach {S X : Type 0} (c : S → Codec X) (add : S → X → S) : S → ℕ → List X → Type 0 where
-  no_more : {s : S} → FitEach c add s zero []
+  implied : {s : S} → FitEach c add s zero []
   one_more : {s : S} {n : ℕ} (x : X) (xs : List X) → (c s).Fits x → FitEach c add (add s x) n xs → FitEach c add s (suc n) (x ∷ xs)
 
 pub fit_each : {S X : Type 0} (c : S → Codec X) (add : S → X → S) (s : S) (n : ℕ) (xs : List X) → FitMany c add s n xs → FitEach c add s n xs
-fit_each c add s zero [] fits = no_more
+fit_each c add s zero [] fits = implied
 fit_each c add s (suc n) (x ∷ xs) fits = one_more x xs fits.0 (fit_each c add (add s x) n xs fits.1)
 fit_each c add s _ _ fits = absurd fits
 
 pub of_many_from : {S X : Type 0} (c : S → Codec X) (add : S → X → S) → ((s : S) → IsCodec (c s)) → (n : ℕ) (s : S) → IsCodec (many_from c add s n)
 of_many_from {S} {X} c add laws zero s = record {
-  takes = λ bytes x fits e. subst (λ (y : List X × List ℕ). Takes bytes (spell_many c add s y.0) y.1 × FitMany c add s zero y.0)
+  takes = λ bytes x fits e. subst (λ (y : List X × List ℕ). Takes bytes (serialize_many c add s y.0) y.1 × FitMany c add s zero y.0)
       (ok_is ([], bytes) x e) (record { parts = refl; rest_fits = fits }, tt);
   again = λ x rest fits. again x rest (fit_each c add s zero x fits);
 }
   where
-    again : (x : List X) (rest : List ℕ) → FitEach c add s zero x → read_many c add s zero (spell_many c add s x ++ rest) ≡ Ok (x, rest)
-    again _ rest no_more = refl
+    again : (x : List X) (rest : List ℕ) → FitEach c add s zero x → read_many c add s zero (serialize_many c add s x ++ rest) ≡ Ok (x, rest)
+    again _ rest implied = refl
 of_many_from {S} {X} c add laws (suc n) s = record {
   takes = λ bytes x fits e.
       let p = bind_ok ((c s).read bytes) (λ y. read_many c add (add s y.0) n y.1 >>= λ z. Ok (y.0 ∷ z.0, z.1)) x e in
       let q = bind_ok (read_many c add (add s p.0.0) n p.0.1) (λ z. Ok (p.0.0 ∷ z.0, z.1)) x p.2 in
       let t = (laws s).takes bytes p.0 fits p.1 in
       let u = (of_many_from c add laws n (add s p.0.0)).takes p.0.1 q.0 t.0.rest_fits q.1 in
-      let both = Takes-then bytes ((c s).spell p.0.0) p.0.1 (spell_many c add (add s p.0.0) q.0.0) q.0.1 t.0 u.0 in
-      subst (λ (y : List X × List ℕ). Takes bytes (spell_many c add s y.0) y.1 × FitMany c add s (suc n) y.0)
+      let both = Takes-then bytes ((c s).serialize p.0.0) p.0.1 (serialize_many c add (add s p.0.0) q.0.0) q.0.1 t.0 u.0 in
+      subst (λ (y : List X × List ℕ). Takes bytes (serialize_many c add s y.0) y.1 × FitMany c add s (suc n) y.0)
       (ok_is (p.0.0 ∷ q.0.0, q.0.1) x q.2) (both, (t.1, u.1));
   again = λ x rest fits. again (of_many_from c add laws n) x rest (fit_each c add s (suc n) x fits) fits;
 }
   where
     again : ((t : S) → IsCodec (many_from c add t n)) → (x : List X) (rest : List ℕ) → FitEach c add s (suc n) x → FitMany c add s (suc n) x
-        → read_many c add s (suc n) (spell_many c add s x ++ rest) ≡ Ok (x, rest)
-    again rest_laws _ rest (one_more x xs here more) fits = ap (read_many c add s (suc n)) (append_assoc ((c s).spell x) (spell_many c add (add s x) xs) rest)
-        ∙ ap (λ r. r >>= λ y. read_many c add (add s y.0) n y.1 >>= λ z. Ok (y.0 ∷ z.0, z.1)) ((laws s).again x (spell_many c add (add s x) xs ++ rest) here)
+        → read_many c add s (suc n) (serialize_many c add s x ++ rest) ≡ Ok (x, rest)
+    again rest_laws _ rest (one_more x xs here more) fits = ap (read_many c add s (suc n)) (append_assoc ((c s).serialize x) (serialize_many c add (add s x) xs) rest)
+        ∙ ap (λ r. r >>= λ y. read_many c add (add s y.0) n y.1 >>= λ z. Ok (y.0 ∷ z.0, z.1)) ((laws s).again x (serialize_many c add (add s x) xs ++ rest) here)
         ∙ ap (λ r. r >>= λ z. Ok (x ∷ z.0, z.1)) ((rest_laws (add s x)).again xs rest fits.1)
 
 pub of_many : {X : Type 0} (n : ℕ) (c : Codec X) → IsCodec c → IsCodec (many n c)

@@ -5,8 +5,8 @@ use Rattle.std.proofs.lemmas.List.Sums.{sum_by-cons}
 use Rattle.aom_image.specs.Image.{Image}
 use Rattle.aom_image.specs.declared.class.ClassDecl.{ClassDecl}
 use Rattle.aom_image.specs.declared.method.Method.{Method}
-use Rattle.aom_codec.specs.Spelling.{pair, quad, unused_pairs, thing_number, argument_number, result_number, family_bytes, class, method, instruction, spell}
-use Rattle.aom_image.specs.WellFormed.{ClassesFit, MethodsFit, spelled_size}
+use Rattle.aom_codec.specs.Serialization.{next_u16, next_u32, unused_pairs, thing_number, argument_number, result_number, family_bytes, class, method, instruction, serialize}
+use Rattle.aom_image.specs.WellFormed.{ClassesFit, MethodsFit, serialized_size}
 use Rattle.aom_instructions.specs.Versions.{family_bytes as family_size}
 use Rattle.aom_instructions.specs.declared.version.Version.{Version}
 
@@ -28,24 +28,24 @@ sum_by-constant {X} n (x ∷ xs) = omega (arith, sum_by-cons (λ (x : X). n) x x
 
 length-unused_pairs : (n : ℕ) → length (unused_pairs n) ≡ 2 * n
 length-unused_pairs zero = refl
-length-unused_pairs (suc n) = omega (arith, length-append (pair 0) (unused_pairs n), length-unused_pairs n)
+length-unused_pairs (suc n) = omega (arith, length-append (next_u16 0) (unused_pairs n), length-unused_pairs n)
 
-length-pairs : {X : Type 0} (f : X → ℕ) (xs : List X) → length (flat_map (λ x. pair (f x)) xs) ≡ 2 * length xs
-length-pairs f xs = omega (arith, length-flat_map (λ x. pair (f x)) xs, sum_by-constant 2 xs)
+length-pairs : {X : Type 0} (f : X → ℕ) (xs : List X) → length (flat_map (λ x. next_u16 (f x)) xs) ≡ 2 * length xs
+length-pairs f xs = omega (arith, length-flat_map (λ x. next_u16 (f x)) xs, sum_by-constant 2 xs)
 
 length_family : (version : Version) (o : Option ℕ) → length (family_bytes version o) ≡ family_size version
 length_family x o = grind arith
 
 length_class : (version : Version) (c : ClassDecl) → length c.fields ≤ 8 → length (class version c) ≡ 28 + family_size version
 length_class version c le =
-    let fields = flat_map (λ t. pair (thing_number t)) c.fields in
+    let fields = flat_map (λ t. next_u16 (thing_number t)) c.fields in
     let unused = unused_pairs (8 - length c.fields) in
-    let last = quad c.budget ++ family_bytes version c.parent in
+    let last = next_u32 c.budget ++ family_bytes version c.parent in
     omega (
       arith,
       length-append fields (unused ++ last),
       length-append unused last,
-      length-append (quad c.budget) (family_bytes version c.parent),
+      length-append (next_u32 c.budget) (family_bytes version c.parent),
       length_family version c.parent,
       length-pairs thing_number c.fields,
       length-unused_pairs (8 - length c.fields),
@@ -53,11 +53,11 @@ length_class version c le =
 
 length_method : (version : Version) (m : Method) → length m.arguments ≤ 6 → length (method version m) ≡ 24 + family_size version + 8 * length m.code
 length_method version m le =
-    let arguments = flat_map (λ a. pair (argument_number a)) m.arguments in
+    let arguments = flat_map (λ a. next_u16 (argument_number a)) m.arguments in
     let unused = unused_pairs (6 - length m.arguments) in
     let code = flat_map instruction m.code in
     let family = family_bytes version m.over in
-    let last = pair (result_number m.gives) ++ (pair (length m.code) ++ (family ++ code)) in
+    let last = next_u16 (result_number m.gives) ++ (next_u16 (length m.code) ++ (family ++ code)) in
     omega (
       arith,
       length-append arguments (unused ++ last),
@@ -70,9 +70,9 @@ length_method version m le =
       sum_by-constant 8 m.code,
     )
 
-pub length_spell : (i : Image) → ClassesFit i.header.version i.header.natives i.classes → MethodsFit i.header.version (length i.classes) i.methods
-    → length (spell i) ≡ spelled_size i.header.version (length i.classes) i.methods
-length_spell i classes methods =
+pub length_serialize : (i : Image) → ClassesFit i.header.version i.header.natives i.classes → MethodsFit i.header.version (length i.classes) i.methods
+    → length (serialize i) ≡ serialized_size i.header.version (length i.classes) i.methods
+length_serialize i classes methods =
     let v = i.header.version in
     let more = family_size v in
     let each_class : All (λ c. length (class v c) ≡ 28 + more) i.classes = grind (arith, length_class v) in

@@ -5,7 +5,7 @@ mod Returning
 mod OperandLaws
 mod InstructionFits
 mod Formats
-mod Spelled
+mod Serialized
 mod Fitting
 mod Images
 mod Putting

@@ -8,7 +8,7 @@ use Rattle.std.proofs.lemmas.Bool.{ltb-true, lt-ltb, eqb-false}
 use Rattle.aom_codec.specs.declared.fault.LoadFault.{LoadFault}
 use Rattle.aom_codec.specs.declared.fault.LoadFault.TheVariants.{BadOperand}
 use Rattle.aom_codec.specs.Instructions.{Bounded, below, large_from, small_from, target_from}
-use Rattle.aom_codec.specs.Spelling.{large_number, small_byte, target_byte}
+use Rattle.aom_codec.specs.Serialization.{large_number, small_byte, target_byte}
 use Rattle.aom_codec.proofs.Laws.{guard_ok, ok_is, passed, kept}
 use Rattle.aom_codec.proofs.Returning.{took}
 use Rattle.aom_instructions.specs.Operands.{LargeFits, SmallFits, TargetFits}
@@ -37,7 +37,7 @@ SaysLarge l k n o = (large_number o ≡ n) × LargeFits l k o
 
 target_says : (t : Target) (limit low n : ℕ) (o : Small) → (low < limit → target_byte t ≡ n) → (low < limit → TargetFits t)
     → below limit low (small.CallTarget t) BadOperand ≡ Ok o → SaysSmall sk.CallTarget n o
-target_says t limit low n o spelled fits e = grind (arith, nat_tests, below_ok)
+target_says t limit low n o serialized fits e = grind (arith, nat_tests, below_ok)
 
 target_reads : (high low n : ℕ) (o : Small) → high * 16 + low ≡ n → target_from high low ≡ Ok o → SaysSmall sk.CallTarget n o
 target_reads high low n o is e = grind (arith, nat_tests, took, target_says, passed)

@@ -12,7 +12,7 @@ use Rattle.aom_image.specs.declared.method.Gives.{Gives}
 use Rattle.aom_image.specs.declared.method.Role.{Role}
 use Rattle.aom_image.specs.declared.method.MethodFlags.{MethodFlags}
 use Rattle.aom_image.specs.declared.method.States.{States}
-use Rattle.aom_codec.specs.Spelling.{version_number, class_number, thing_number, argument_number, role_number, gives_byte, result_number}
+use Rattle.aom_codec.specs.Serialization.{version_number, class_number, thing_number, argument_number, role_number, gives_byte, result_number}
 use Rattle.aom_codec.specs.Format.{version_from, parent_from, index_from, class_from, thing_from, argument_from, role_from, flags_from, states_from, gives_from}
 use Rattle.aom_codec.proofs.Laws.{guard_ok, marked_or}
 

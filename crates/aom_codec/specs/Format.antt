@@ -1,9 +1,9 @@
 -- The format of an image, as it is read: the header, the classes, the methods with their code.
 use Rattle.std.specs.Prelude.{ℕ, ◌+◌, ◌-◌, true, List, length, Option, Some, None, Result, Ok, Err, nat_lt, nat_le, ◌==◌, if◌then◌else◌}
-use Rattle.aom_codec.specs.Codec.{Codec, ◌>>=◌, byte, pair, quad, is_between, limited, checked, fixed, next, after, seen, many_from, many, nothing, unused, choose}
+use Rattle.aom_codec.specs.Codec.{Codec, ◌>>=◌, byte, next_u16, next_u32, is_between_dispatches, limited, checked, fixed, next, after, seen, many_from, many, nothing, unused, choose}
 use Rattle.aom_codec.specs.Instructions.{instruction}
 use Rattle.aom_image.specs.Image.{Image}
-use Rattle.aom_codec.specs.Spelling.{class_number, thing_number, argument_number, role_number, gives_byte, result_number, kind_byte, version_number, provider_sort, native_number}
+use Rattle.aom_codec.specs.Serialization.{class_number, thing_number, argument_number, role_number, gives_byte, result_number, kind_byte, version_number, provider_sort, native_number}
 use Rattle.aom_image.specs.WellFormed.{is_server, may_declare, may_descend}
 use Rattle.aom_instructions.specs.Fits.{limits}
 use Rattle.aom_codec.specs.declared.fault.LoadFault.{LoadFault}
@@ -41,7 +41,7 @@ class_from classes n = if n == 0xffff then Ok None else index_from classes n >>=
 
 -- a class or none, in two bytes
 abbrev pub class_or_none : ℕ → Codec (Option ℕ)
-class_or_none classes = seen (class_from classes) class_number pair
+class_or_none classes = seen (class_from classes) class_number next_u16
 
 -- what may be owned
 abbrev pub thing_from : ℕ → ℕ → Result Thing LoadFault
@@ -49,7 +49,7 @@ thing_from classes n = if n == 0xfffe then Ok Message else index_from classes n 
 
 -- what may be owned, in two bytes
 abbrev pub thing : ℕ → Codec Thing
-thing classes = seen (thing_from classes) thing_number pair
+thing classes = seen (thing_from classes) thing_number next_u16
 
 -- what an argument is
 abbrev pub argument_from : ℕ → ℕ → Result Argument LoadFault
@@ -57,7 +57,7 @@ argument_from classes n = if n == 0xffff then Ok arguments.Word else thing_from 
 
 -- an argument, in two bytes
 abbrev pub argument : ℕ → Codec Argument
-argument classes = seen (argument_from classes) argument_number pair
+argument classes = seen (argument_from classes) argument_number next_u16
 
 -- ---- header
 
@@ -67,26 +67,26 @@ version_from n = if n == 1 then Ok versions.One else if n == 2 then Ok versions.
 
 -- the version
 abbrev pub version : Codec Version
-version = seen version_from version_number pair
+version = seen version_from version_number next_u16
 
 -- what stands behind the counts
 abbrev pub header_fields : ℕ → Codec (ℕ × (ℕ × (ℕ × (Option ℕ × ℕ))))
 header_fields classes =
-    next (limited pair 0 4096) (λ _.
-    next (limited pair 0 1024) (λ _.
+    next (limited next_u16 0 4096) (λ _.
+    next (limited next_u16 0 1024) (λ _.
     next (limited byte 0 16) (λ _.
     after (fixed byte 0 NotZero) (
     next (class_or_none classes) (λ _.
-    after (fixed pair 0 NotZero)
-    quad)))))
+    after (fixed next_u16 0 NotZero)
+    next_u32)))))
 
 -- the fields of the header
 abbrev pub opening_fields : Codec (Version × (ℕ × (ℕ × (ℕ × (ℕ × (ℕ × (Option ℕ × ℕ)))))))
 opening_fields =
-    after (fixed quad 0x414f494d BadMagic) (
+    after (fixed next_u32 0x414f494d BadMagic) (
     next version (λ _.
-    next (limited pair 0 256) (λ classes.
-    next (limited pair 1 1024) (λ _.
+    next (limited next_u16 0 256) (λ classes.
+    next (limited next_u16 1 1024) (λ _.
     header_fields classes))))
 
 -- the header with the counts of classes and methods, which an image shows by its lists
@@ -109,7 +109,7 @@ last_provider versions.Two = 3
 
 -- the sort of a provider
 abbrev pub sort_of_provider : Version → Codec ℕ
-sort_of_provider version = checked byte (is_between 0 (last_provider version)) BadOperand
+sort_of_provider version = checked byte (is_between_dispatches 0 (last_provider version)) BadOperand
 
 -- the provider of a sort from 0 to 3
 abbrev pub provider_from : ℕ → ℕ → Provider
@@ -125,7 +125,7 @@ provider version natives = seen (λ p. Ok (provider_from p.0 p.1)) (λ p. (provi
 
 -- no class of sessions
 abbrev pub no_session : Codec (Unit {0})
-no_session = fixed pair 0xffff BadOperand
+no_session = fixed next_u16 0xffff BadOperand
 
 -- what stands between the counts and the fields of a class that is neither active nor a server
 abbrev pub bare : Codec (Unit {0})
@@ -133,7 +133,7 @@ bare = after (unused 3 byte NotZero) no_session
 
 -- the class of a server's sessions
 abbrev pub session_class : ℕ → Codec ℕ
-session_class classes = seen (index_from classes) (λ c. c) pair
+session_class classes = seen (index_from classes) (λ c. c) next_u16
 
 -- what stands between the counts and the fields of an active class
 abbrev pub active_part : Version → ℕ → Codec (Provider × Unit {0})
@@ -163,7 +163,7 @@ kind version classes natives sort =
 
 -- what stands after the fields: zeros where objects of the class are not dispatched
 abbrev pub budget : ClassKind → Codec ℕ
-budget k = checked quad (may_declare k) NotZero
+budget k = checked next_u32 (may_declare k) NotZero
 
 -- a parent, which plain and active classes alone may have
 abbrev pub parent_from : ClassKind → ℕ → ℕ → Result (Option ℕ) LoadFault
@@ -171,25 +171,25 @@ parent_from k classes n = if n == 0xffff then Ok None else if may_descend k then
 
 -- a class or a method, or none, and two unused bytes
 abbrev pub of_family : (ℕ → Result (Option ℕ) LoadFault) → Codec (Option ℕ)
-of_family from = seen (λ p. Ok p.0) (λ o. (o, tt)) (next (seen from class_number pair) (λ _. fixed pair 0 NotZero))
+of_family from = seen (λ p. Ok p.0) (λ o. (o, tt)) (next (seen from class_number next_u16) (λ _. fixed next_u16 0 NotZero))
 
 -- what the first version does not tell
-abbrev pub untold : Codec (Option ℕ)
-untold = seen (λ _. Ok None) (λ _. tt) nothing
+abbrev pub unreported : Codec (Option ℕ)
+unreported = seen (λ _. Ok None) (λ _. tt) nothing
 
 -- what tells of the parent
 abbrev pub parent : Version → ClassKind → ℕ → Codec (Option ℕ)
-parent versions.One k classes = untold
+parent versions.One k classes = unreported
 parent versions.Two k classes = of_family (parent_from k classes)
 
 -- what tells of the method that is overridden
 abbrev pub over : Version → ℕ → Codec (Option ℕ)
-over versions.One methods = untold
+over versions.One methods = unreported
 over versions.Two methods = of_family (class_from methods)
 
 -- the byte of a class's kind, after so many servers: the ninth passes the limit
 abbrev pub kind_sort : ℕ → Codec ℕ
-kind_sort servers = checked (checked byte (is_between 0 3) BadOperand) (λ n. if n == 2 then nat_lt servers 8 else true) LimitPassed
+kind_sort servers = checked (checked byte (is_between_dispatches 0 3) BadOperand) (λ n. if n == 2 then nat_lt servers 8 else true) LimitPassed
 
 -- the fields of a class
 abbrev pub class_parts : Version → ℕ → ℕ → ℕ → Codec (ℕ × (ℕ × (ℕ × (ClassKind × (List Thing × (ℕ × Option ℕ))))))
@@ -199,7 +199,7 @@ class_parts version classes natives servers =
     next (limited byte 0 8) (λ count.
     next (kind version classes natives sort) (λ k.
     next (many count (thing classes)) (λ _.
-    after (unused (8 - count) pair NotZero) (
+    after (unused (8 - count) next_u16 NotZero) (
     next (budget k) (λ _.
     parent version k classes)))))))
 
@@ -254,11 +254,11 @@ gives_from classes sort n =
 
 -- the kind of a result
 abbrev pub result_sort : Codec ℕ
-result_sort = checked byte (is_between 0 4) BadOperand
+result_sort = checked byte (is_between_dispatches 0 4) BadOperand
 
 -- the class of a result
 abbrev pub result : ℕ → ℕ → Codec Gives
-result classes sort = seen (gives_from classes sort) result_number pair
+result classes sort = seen (gives_from classes sort) result_number next_u16
 
 -- the fields of a method, and its code
 abbrev pub method_parts : Version → ℕ → ℕ → Codec (Option ℕ × (Role × (MethodFlags × (States × (States × (ℕ × (ℕ × (List Argument × (Gives × (ℕ × (Option ℕ × List Instr)))))))))))
@@ -271,9 +271,9 @@ method_parts version classes methods =
     next (limited byte 0 6) (λ count.
     next result_sort (λ sort.
     next (many count (argument classes)) (λ _.
-    after (unused (6 - count) pair NotZero) (
+    after (unused (6 - count) next_u16 NotZero) (
     next (result classes sort) (λ _.
-    next (limited pair 1 1024) (λ places.
+    next (limited next_u16 1 1024) (λ places.
     next (over version methods) (λ _.
     many places (instruction (limits version classes methods places))))))))))))))
 

@@ -1,8 +1,8 @@
 -- The format of an instruction: its opcode, and operands of the kinds that the opcode's row asks.
 use Rattle.std.specs.Prelude.{◌≤◌, ℕ, ◌/◌, ◌%◌, Option, Some, None, Result, Ok, Err, nat_lt, ◌==◌, if◌then◌else◌}
 use Rattle.std.specs.Int.{w32, cast_signed}
-use Rattle.aom_codec.specs.Codec.{Codec, byte, quad, next, seen}
-use Rattle.aom_codec.specs.Spelling.{small_byte, large_number}
+use Rattle.aom_codec.specs.Codec.{Codec, byte, next_u32, next, seen}
+use Rattle.aom_codec.specs.Serialization.{small_byte, large_number}
 use Rattle.aom_codec.specs.declared.fault.LoadFault.{LoadFault}
 use Rattle.aom_codec.specs.declared.fault.LoadFault.TheVariants.{BadOpcode, BadOperand, BadIndex, NotZero}
 use Rattle.aom_instructions.specs.Mnemonics.{is_in, with_opcode}
@@ -69,7 +69,7 @@ small_operand k = seen (small_from k) small_byte byte
 
 -- the large operand, read and spelled
 abbrev pub large_operand : Limits → LargeKind → Codec Large
-large_operand l k = seen (large_from l k) large_number quad
+large_operand l k = seen (large_from l k) large_number next_u32
 
 -- ---- the whole
 

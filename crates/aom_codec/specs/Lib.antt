@@ -1,4 +1,4 @@
-pub mod Spelling
+pub mod Serialization
 pub mod Faults
 pub mod Codec
 pub mod Instructions

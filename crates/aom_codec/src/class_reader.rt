@@ -60,7 +60,7 @@ impl<'a> ByteReader<'a> {
         requires { classes ≤ 256 }
         ensures { Reads (λ x. (x, self.new)) result ((thing classes).read self.old) }
     {
-        thing_of(self.pair()?, classes)
+        thing_of(self.next_u16()?, classes)
     }
 
     fn provider_sort(&mut self, version: Version) -> Result<u8, LoadFault>
@@ -99,7 +99,7 @@ impl<'a> ByteReader<'a> {
     fn no_session(&mut self) -> Result<(), LoadFault>
         ensures { Reads (λ x. (x, self.new)) result (no_session.read self.old) }
     {
-        self.fixed_pair(0xffff, LoadFault::BadOperand)
+        self.expect_u16(0xffff, LoadFault::BadOperand)
     }
 
     fn bare(&mut self) -> Result<(), LoadFault>
@@ -128,7 +128,7 @@ impl<'a> ByteReader<'a> {
         self.fixed_byte(0, LoadFault::NotZero)?;
         let sessions = self.limited_byte(1, 64)?;
         self.fixed_byte(0, LoadFault::NotZero)?;
-        let session = class_below(self.pair()?, classes)?;
+        let session = class_below(self.next_u16()?, classes)?;
         Ok((sessions, session))
     }
 
@@ -168,7 +168,7 @@ impl<'a> ByteReader<'a> {
     fn budget(&mut self, kind: ClassKind) -> Result<u32, LoadFault>
         ensures { Reads (λ x. (x, self.new)) result ((budget kind).read self.old) }
     {
-        let budget = self.quad()?;
+        let budget = self.next_u32()?;
         if kind.may_declare(budget) {
             Ok(budget)
         } else {
@@ -189,8 +189,8 @@ impl<'a> ByteReader<'a> {
         match version {
             Version::One => Ok(None),
             Version::Two => {
-                let parent = parent_of(self.pair()?, kind, classes)?;
-                self.fixed_pair(0, LoadFault::NotZero)?;
+                let parent = parent_of(self.next_u16()?, kind, classes)?;
+                self.expect_u16(0, LoadFault::NotZero)?;
                 Ok(parent)
             }
         }

@@ -1,7 +1,7 @@
 //! The way in: bytes that spell an image.
 ghost use Rattle.std.specs.Prelude.{◌≡◌, ◌≢◌, Some, IfOk, IfErr};
 ghost use Rattle.aom_image.specs.Image.{Image as ImageRecord};
-ghost use Rattle.aom_codec.specs.Spelling.{spell};
+ghost use Rattle.aom_codec.specs.Serialization.{serialize};
 ghost use Rattle.aom_image.specs.WellFormed.{WellFormed};
 ghost use Rattle.aom_codec.specs.Format.{image as image_format, read_image, first_fault};
 ghost use Rattle.aom_codec.specs.Reads.{ReadsOrNoMemory, DecodesTo};
@@ -23,9 +23,9 @@ struct ImageParts {
 /// The image that the bytes spell, all of the bytes.
 pub fn decode(alloc: Global, bytes: &[u8]) -> Result<Image, LoadFault>
     // What is read is spelled so.
-    ensures found { IfOk result (λ i. WellFormed i × (bytes.now ≡ spell i)) }
+    ensures found { IfOk result (λ i. WellFormed i × (bytes.now ≡ serialize i)) }
     // What is spelled so is read, unless memory runs out.
-    ensures only { (i : ImageRecord) → WellFormed i → bytes.now ≡ spell i → DecodesTo i result }
+    ensures only { (i : ImageRecord) → WellFormed i → bytes.now ≡ serialize i → DecodesTo i result }
     ensures fault { IfErr result (λ e. e ≢ NoMemory → first_fault bytes.now ≡ Some e) }
 {
     let parts = parts_of(alloc, bytes)?;

@@ -1,10 +1,10 @@
 //! The way out: the bytes that spell an image.
 ghost use Rattle.std.specs.Prelude.{◌≡◌, ◌≤◌, ◌-◌, ◌++◌, ◌∷◌, All, length, flat_map, OnOk, IfOk};
-ghost use Rattle.aom_codec.specs.Spelling.{version_number, family_bytes, pair, quad, unused_pairs, class_number, thing_number, argument_number, gives_byte, result_number, kind_byte, provider_byte, number_byte, session_number, class as class_bytes, target_byte, small_byte, large_number, instruction as instruction_bytes, method as method_bytes, spell};
+ghost use Rattle.aom_codec.specs.Serialization.{version_number, family_bytes, next_u16, next_u32, unused_pairs, class_number, thing_number, argument_number, gives_byte, result_number, kind_byte, provider_byte, number_byte, session_number, class as class_bytes, target_byte, small_byte, large_number, instruction as instruction_bytes, method as method_bytes, serialize};
 
 use aom_image::{
     Argument, ClassDecl, ClassKind, ClassNumber, Gives, Header, Image, Instr, Large, Method,
-    Operands, Provider, Role, Small, Target, Thing, Version, spelled_len,
+    Operands, Provider, Role, Small, Target, Thing, Version, serialized_len,
 };
 use bitflags::Flags;
 use std::alloc::{AllocError, Global};
@@ -132,23 +132,23 @@ fn large_number(operand: Large) -> u32
     }
 }
 
-fn put_pair(out: &mut Vec<u8>, number: u16) -> Result<(), AllocError>
-    ensures { OnOk result (out.new.items ≡ out.old.items ++ pair number) }
+fn encode_u16(out: &mut Vec<u8>, number: u16) -> Result<(), AllocError>
+    ensures { OnOk result (out.new.items ≡ out.old.items ++ next_u16 number) }
 {
     out.extend_from_slice(&number.to_be_bytes())
 }
 
-fn put_quad(out: &mut Vec<u8>, number: u32) -> Result<(), AllocError>
-    ensures { OnOk result (out.new.items ≡ out.old.items ++ quad number) }
+fn encode_u32(out: &mut Vec<u8>, number: u32) -> Result<(), AllocError>
+    ensures { OnOk result (out.new.items ≡ out.old.items ++ next_u32 number) }
 {
     out.extend_from_slice(&number.to_be_bytes())
 }
 
-fn put_unused_pairs(out: &mut Vec<u8>, count: usize) -> Result<(), AllocError>
+fn encode_unused_u16s(out: &mut Vec<u8>, count: usize) -> Result<(), AllocError>
     ensures { OnOk result (out.new.items ≡ out.old.items ++ unused_pairs count) }
 {
     for _ in 0..count {
-        put_pair(out, 0)?;
+        encode_u16(out, 0)?;
     }
     Ok(())
 }
@@ -162,55 +162,55 @@ fn version_number(version: Version) -> u16
     }
 }
 
-fn put_counts(
+fn encode_counts(
     out: &mut Vec<u8>,
     version: Version,
     classes: u16,
     methods: u16,
 ) -> Result<(), AllocError>
-    ensures { OnOk result (out.new.items ≡ out.old.items ++ (quad 0x414f494d ++ (pair (version_number version) ++ (pair classes ++ pair methods)))) }
+    ensures { OnOk result (out.new.items ≡ out.old.items ++ (next_u32 0x414f494d ++ (next_u16 (version_number version) ++ (next_u16 classes ++ next_u16 methods)))) }
 {
-    put_quad(out, 0x414f494d)?;
-    put_pair(out, version_number(version))?;
-    put_pair(out, classes)?;
-    put_pair(out, methods)
+    encode_u32(out, 0x414f494d)?;
+    encode_u16(out, version_number(version))?;
+    encode_u16(out, classes)?;
+    encode_u16(out, methods)
 }
 
-fn put_limits(out: &mut Vec<u8>, header: &Header) -> Result<(), AllocError>
-    ensures { OnOk result (out.new.items ≡ out.old.items ++ (pair header.now.cells ++ (pair header.now.messages ++ (header.now.natives ∷ 0 ∷ (pair (class_number header.now.root) ++ (pair 0 ++ quad header.now.budget)))))) }
+fn encode_limits(out: &mut Vec<u8>, header: &Header) -> Result<(), AllocError>
+    ensures { OnOk result (out.new.items ≡ out.old.items ++ (next_u16 header.now.cells ++ (next_u16 header.now.messages ++ (header.now.natives ∷ 0 ∷ (next_u16 (class_number header.now.root) ++ (next_u16 0 ++ next_u32 header.now.budget)))))) }
 {
-    put_pair(out, header.cells)?;
-    put_pair(out, header.messages)?;
+    encode_u16(out, header.cells)?;
+    encode_u16(out, header.messages)?;
     out.push(header.natives)?;
     out.push(0)?;
-    put_pair(out, class_number(header.root))?;
-    put_pair(out, 0)?;
-    put_quad(out, header.budget)
+    encode_u16(out, class_number(header.root))?;
+    encode_u16(out, 0)?;
+    encode_u32(out, header.budget)
 }
 
-fn put_things(out: &mut Vec<u8>, things: &[Thing]) -> Result<(), AllocError>
-    ensures { OnOk result (out.new.items ≡ out.old.items ++ flat_map (λ t. pair (thing_number t)) things.now) }
+fn encode_things(out: &mut Vec<u8>, things: &[Thing]) -> Result<(), AllocError>
+    ensures { OnOk result (out.new.items ≡ out.old.items ++ flat_map (λ t. next_u16 (thing_number t)) things.now) }
 {
     for thing in things {
-        put_pair(out, thing_number(*thing))?;
+        encode_u16(out, thing_number(*thing))?;
     }
     Ok(())
 }
 
 /// What tells of a parent or of what is overridden, by its number.
-fn put_family(out: &mut Vec<u8>, version: Version, number: Option<u16>) -> Result<(), AllocError>
+fn encode_family(out: &mut Vec<u8>, version: Version, number: Option<u16>) -> Result<(), AllocError>
     ensures { OnOk result (out.new.items ≡ out.old.items ++ family_bytes version number) }
 {
     match version {
         Version::One => Ok(()),
         Version::Two => {
-            put_pair(out, number.unwrap_or(0xffff))?;
-            put_pair(out, 0)
+            encode_u16(out, number.unwrap_or(0xffff))?;
+            encode_u16(out, 0)
         }
     }
 }
 
-fn put_class(out: &mut Vec<u8>, version: Version, class: &ClassDecl) -> Result<(), AllocError>
+fn encode_class(out: &mut Vec<u8>, version: Version, class: &ClassDecl) -> Result<(), AllocError>
     requires { length class.now.fields ≤ 8 }
     ensures { OnOk result (out.new.items ≡ out.old.items ++ class_bytes version class.now) }
 {
@@ -225,48 +225,48 @@ fn put_class(out: &mut Vec<u8>, version: Version, class: &ClassDecl) -> Result<(
         0,
     ];
     out.extend_from_slice(&front)?;
-    put_pair(out, session_number(class.kind))?;
-    put_things(out, class.fields.as_slice())?;
-    put_unused_pairs(out, 8 - count)?;
-    put_quad(out, class.budget)?;
-    put_family(out, version, class.parent.map(|parent| parent.number()))
+    encode_u16(out, session_number(class.kind))?;
+    encode_things(out, class.fields.as_slice())?;
+    encode_unused_u16s(out, 8 - count)?;
+    encode_u32(out, class.budget)?;
+    encode_family(out, version, class.parent.map(|parent| parent.number()))
 }
 
-fn put_arguments(out: &mut Vec<u8>, arguments: &[Argument]) -> Result<(), AllocError>
-    ensures { OnOk result (out.new.items ≡ out.old.items ++ flat_map (λ a. pair (argument_number a)) arguments.now) }
+fn encode_arguments(out: &mut Vec<u8>, arguments: &[Argument]) -> Result<(), AllocError>
+    ensures { OnOk result (out.new.items ≡ out.old.items ++ flat_map (λ a. next_u16 (argument_number a)) arguments.now) }
 {
     for argument in arguments {
-        put_pair(out, argument_number(*argument))?;
+        encode_u16(out, argument_number(*argument))?;
     }
     Ok(())
 }
 
-fn put_instruction(out: &mut Vec<u8>, instr: Instr) -> Result<(), AllocError>
+fn encode_instruction(out: &mut Vec<u8>, instr: Instr) -> Result<(), AllocError>
     ensures { OnOk result (out.new.items ≡ out.old.items ++ instruction_bytes instr) }
 {
     let row = instr.mnemonic().row();
     let Operands { a, b, c, d } = instr.operands();
     let front = [row.opcode(), small_byte(a), small_byte(b), small_byte(c)];
     out.extend_from_slice(&front)?;
-    put_quad(out, large_number(d))
+    encode_u32(out, large_number(d))
 }
 
-fn put_code(out: &mut Vec<u8>, code: &[Instr]) -> Result<(), AllocError>
+fn encode_code(out: &mut Vec<u8>, code: &[Instr]) -> Result<(), AllocError>
     ensures { OnOk result (out.new.items ≡ out.old.items ++ flat_map instruction_bytes code.now) }
 {
     for instr in code {
-        put_instruction(out, *instr)?;
+        encode_instruction(out, *instr)?;
     }
     Ok(())
 }
 
-fn put_method(out: &mut Vec<u8>, version: Version, method: &Method) -> Result<(), AllocError>
+fn encode_method(out: &mut Vec<u8>, version: Version, method: &Method) -> Result<(), AllocError>
     requires arguments { length method.now.arguments ≤ 6 }
     requires code { length method.now.code ≤ 1024 }
     ensures { OnOk result (out.new.items ≡ out.old.items ++ method_bytes version method.now) }
 {
     let count = method.arguments.len();
-    put_pair(out, class_number(method.class))?;
+    encode_u16(out, class_number(method.class))?;
     let front = [
         method.role.number(),
         method.flags.bits(),
@@ -276,51 +276,55 @@ fn put_method(out: &mut Vec<u8>, version: Version, method: &Method) -> Result<()
         gives_byte(method.gives),
     ];
     out.extend_from_slice(&front)?;
-    put_arguments(out, method.arguments.as_slice())?;
-    put_unused_pairs(out, 6 - count)?;
-    put_pair(out, result_number(method.gives))?;
-    put_pair(out, method.code.len() as u16)?;
-    put_family(out, version, method.over.map(|over| over.number()))?;
-    put_code(out, method.code.as_slice())
+    encode_arguments(out, method.arguments.as_slice())?;
+    encode_unused_u16s(out, 6 - count)?;
+    encode_u16(out, result_number(method.gives))?;
+    encode_u16(out, method.code.len() as u16)?;
+    encode_family(out, version, method.over.map(|over| over.number()))?;
+    encode_code(out, method.code.as_slice())
 }
 
-fn put_classes(out: &mut Vec<u8>, version: Version, classes: &[ClassDecl]) -> Result<(), AllocError>
+fn encode_classes(
+    out: &mut Vec<u8>,
+    version: Version,
+    classes: &[ClassDecl],
+) -> Result<(), AllocError>
     requires { All (λ c. length c.fields ≤ 8) classes.now }
     ensures { OnOk result (out.new.items ≡ out.old.items ++ flat_map (class_bytes version) classes.now) }
 {
     for class in classes {
-        put_class(out, version, class)?;
+        encode_class(out, version, class)?;
     }
     Ok(())
 }
 
-fn put_methods(out: &mut Vec<u8>, version: Version, methods: &[Method]) -> Result<(), AllocError>
+fn encode_methods(out: &mut Vec<u8>, version: Version, methods: &[Method]) -> Result<(), AllocError>
     requires arguments { All (λ m. length m.arguments ≤ 6) methods.now }
     requires code { All (λ m. length m.code ≤ 1024) methods.now }
     ensures { OnOk result (out.new.items ≡ out.old.items ++ flat_map (method_bytes version) methods.now) }
 {
     for method in methods {
-        put_method(out, version, method)?;
+        encode_method(out, version, method)?;
     }
     Ok(())
 }
 
 /// The one spelling of an image.
 pub fn encode(alloc: Global, image: &Image) -> Result<Vec<u8>, AllocError>
-    ensures { IfOk result (λ v. v.items ≡ spell image.now) }
+    ensures { IfOk result (λ v. v.items ≡ serialize image.now) }
 {
     let classes = image.classes().as_slice();
     let methods = image.methods().as_slice();
     let version = image.header().version;
-    let mut out = Vec::with_capacity(alloc, spelled_len(version, classes.len(), methods))?;
-    put_counts(
+    let mut out = Vec::with_capacity(alloc, serialized_len(version, classes.len(), methods))?;
+    encode_counts(
         &mut out,
         version,
         classes.len() as u16,
         methods.len() as u16,
     )?;
-    put_limits(&mut out, image.header())?;
-    put_classes(&mut out, version, classes)?;
-    put_methods(&mut out, version, methods)?;
+    encode_limits(&mut out, image.header())?;
+    encode_classes(&mut out, version, classes)?;
+    encode_methods(&mut out, version, methods)?;
     Ok(out)
 }

@@ -34,7 +34,7 @@ impl<'a> ByteReader<'a> {
         requires { classes ≤ 256 }
         ensures { Reads (λ x. (x, self.new)) result ((class_or_none classes).read self.old) }
     {
-        match self.pair()? {
+        match self.next_u16()? {
             0xffff => Ok(None),
             number => Ok(Some(class_below(number, classes)?)),
         }
@@ -43,7 +43,7 @@ impl<'a> ByteReader<'a> {
     fn version(&mut self) -> Result<Version, LoadFault>
         ensures { Reads (λ x. (x, self.new)) result (version_format.read self.old) }
     {
-        match self.pair()? {
+        match self.next_u16()? {
             1 => Ok(Version::One),
             2 => Ok(Version::Two),
             _ => Err(LoadFault::BadVersion),
@@ -56,10 +56,10 @@ impl<'a> ByteReader<'a> {
         ensures methods { IfOk result (λ o. o.methods ≤ 1024) }
         ensures natives { IfOk result (λ o. o.header.natives ≤ 16) }
     {
-        self.fixed_quad(0x414f494d, LoadFault::BadMagic)?;
+        self.expect_u32(0x414f494d, LoadFault::BadMagic)?;
         let version = self.version()?;
-        let classes = self.limited_pair(0, 256)?;
-        let methods = self.limited_pair(1, 1024)?;
+        let classes = self.next_u16_at_most(0, 256)?;
+        let methods = self.next_u16_at_most(1, 1024)?;
         let header = self.header(version, classes)?;
         Ok(Opening {
             classes,
@@ -75,13 +75,13 @@ impl<'a> ByteReader<'a> {
         ensures version { IfOk result (λ h. h.version ≡ version) }
         ensures natives { IfOk result (λ h. h.natives ≤ 16) }
     {
-        let cells = self.limited_pair(0, 4096)?;
-        let messages = self.limited_pair(0, 1024)?;
+        let cells = self.next_u16_at_most(0, 4096)?;
+        let messages = self.next_u16_at_most(0, 1024)?;
         let natives = self.limited_byte(0, 16)?;
         self.fixed_byte(0, LoadFault::NotZero)?;
         let root = self.class_or_none(classes)?;
-        self.fixed_pair(0, LoadFault::NotZero)?;
-        let budget = self.quad()?;
+        self.expect_u16(0, LoadFault::NotZero)?;
+        let budget = self.next_u32()?;
         Ok(Header {
             version,
             cells,

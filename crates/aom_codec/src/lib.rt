@@ -14,4 +14,4 @@ mod round_trip;
 pub use decoding::decode;
 pub use encoding::encode;
 pub use fault::LoadFault;
-pub use round_trip::spelling_and_reading;
+pub use round_trip::serialization_and_reading;

@@ -41,7 +41,7 @@ fn gives_of(sort: u8, number: u16, classes: u16) -> Result<Gives, LoadFault>
 }
 
 /// The method that is overridden, by its number.
-fn over_of(number: u16, methods: u16) -> Result<Option<MethodNumber>, LoadFault>
+fn overridden_from(number: u16, methods: u16) -> Result<Option<MethodNumber>, LoadFault>
     requires { methods ≤ 1024 }
     ensures { result ≡ class_from methods number }
 {
@@ -59,7 +59,7 @@ impl<'a> ByteReader<'a> {
         requires { classes ≤ 256 }
         ensures { Reads (λ x. (x, self.new)) result ((argument classes).read self.old) }
     {
-        argument_of(self.pair()?, classes)
+        argument_of(self.next_u16()?, classes)
     }
 
     fn role(&mut self) -> Result<Role, LoadFault>
@@ -112,7 +112,7 @@ impl<'a> ByteReader<'a> {
         requires { classes ≤ 256 }
         ensures { Reads (λ x. (x, self.new)) result ((result_format classes sort).read self.old) }
     {
-        gives_of(sort, self.pair()?, classes)
+        gives_of(sort, self.next_u16()?, classes)
     }
 
     fn arguments(
@@ -125,7 +125,7 @@ impl<'a> ByteReader<'a> {
         ensures { ReadsOrNoMemory (λ x. (x.items, self.new)) result ((many count (argument classes)).read self.old) }
     {
         // The check has to be told of the type that `Argument` holds.
-        let _told: Option<Thing> = None;
+        let _reported: Option<Thing> = None;
         let mut arguments = Vec::with_capacity(alloc, count as usize)?;
         for _ in 0..count {
             let argument = self.argument(classes)?;
@@ -139,7 +139,7 @@ impl<'a> ByteReader<'a> {
         ensures { ReadsOrNoMemory (λ x. (x.items, self.new)) result ((many limits.places (instruction limits)).read self.old) }
     {
         // The check has to be told of the type that `Instr` holds.
-        let _told: Option<Target> = None;
+        let _reported: Option<Target> = None;
         let mut code = Vec::with_capacity(alloc, limits.places)?;
         for _ in 0..limits.places {
             let instr = self.instruction(limits)?;
@@ -155,8 +155,8 @@ impl<'a> ByteReader<'a> {
         match version {
             Version::One => Ok(None),
             Version::Two => {
-                let over = over_of(self.pair()?, methods)?;
-                self.fixed_pair(0, LoadFault::NotZero)?;
+                let over = overridden_from(self.next_u16()?, methods)?;
+                self.expect_u16(0, LoadFault::NotZero)?;
                 Ok(over)
             }
         }
@@ -183,7 +183,7 @@ impl<'a> ByteReader<'a> {
         let arguments = self.arguments(alloc, count, classes)?;
         self.unused_pairs(6 - count)?;
         let gives = self.result(sort, classes)?;
-        let length = self.limited_pair(1, 1024)?;
+        let length = self.next_u16_at_most(1, 1024)?;
         let over = self.over(version, methods)?;
         let limits = Limits {
             version,

@@ -82,7 +82,7 @@ impl<'a> ByteReader<'a> {
         requires { Bounded limits }
         ensures { Reads (λ x. (x, self.new)) result ((large_operand limits kind).read self.old) }
     {
-        large_of(kind, self.quad()?, limits)
+        large_of(kind, self.next_u32()?, limits)
     }
 
     fn operands(&mut self, kinds: Kinds, limits: Limits) -> Result<Operands, LoadFault>

@@ -1,6 +1,6 @@
 //! Bytes that are read from the left.
 ghost use Rattle.std.specs.Prelude.{◌≡◌, ◌≤◌, ◌<◌, ◌==◌, false, true, drop, length, take, IfErr, IfOk};
-ghost use Rattle.aom_codec.specs.Codec.{byte, pair, quad, fixed, unused};
+ghost use Rattle.aom_codec.specs.Codec.{byte, next_u16, next_u32, fixed, unused};
 ghost use Rattle.aom_codec.specs.Reads.{Reads, ReadsWithin};
 ghost use Rattle.aom_codec.specs.declared.fault.LoadFault.TheVariants.{NotZero, Truncated};
 
@@ -69,14 +69,14 @@ impl<'a> ByteReader<'a> {
         Ok(front)
     }
 
-    pub fn pair(&mut self) -> Result<u16, LoadFault>
-        ensures { Reads (λ x. (x, self.new)) result (pair.read self.old) }
+    pub fn next_u16(&mut self) -> Result<u16, LoadFault>
+        ensures { Reads (λ x. (x, self.new)) result (next_u16.read self.old) }
     {
         Ok(BigEndian::read_u16(self.front(2)?))
     }
 
-    pub fn quad(&mut self) -> Result<u32, LoadFault>
-        ensures { Reads (λ x. (x, self.new)) result (quad.read self.old) }
+    pub fn next_u32(&mut self) -> Result<u32, LoadFault>
+        ensures { Reads (λ x. (x, self.new)) result (next_u32.read self.old) }
     {
         Ok(BigEndian::read_u32(self.front(4)?))
     }
@@ -91,10 +91,10 @@ impl<'a> ByteReader<'a> {
     }
 
     /// A count or a limit.
-    pub fn limited_pair(&mut self, low: u16, high: u16) -> Result<u16, LoadFault>
-        ensures { ReadsWithin pair low high self.old self.new result }
+    pub fn next_u16_at_most(&mut self, low: u16, high: u16) -> Result<u16, LoadFault>
+        ensures { ReadsWithin next_u16 low high self.old self.new result }
     {
-        let number = self.pair()?;
+        let number = self.next_u16()?;
         require(low <= number && number <= high, LoadFault::LimitPassed)?;
         Ok(number)
     }
@@ -107,24 +107,24 @@ impl<'a> ByteReader<'a> {
     }
 
     /// The number that has to stand here.
-    pub fn fixed_pair(&mut self, value: u16, fault: LoadFault) -> Result<(), LoadFault>
-        ensures { Reads (λ x. (x, self.new)) result ((fixed pair value fault).read self.old) }
+    pub fn expect_u16(&mut self, value: u16, fault: LoadFault) -> Result<(), LoadFault>
+        ensures { Reads (λ x. (x, self.new)) result ((fixed next_u16 value fault).read self.old) }
     {
-        require(self.pair()? == value, fault)
+        require(self.next_u16()? == value, fault)
     }
 
     /// The number that has to stand here.
-    pub fn fixed_quad(&mut self, value: u32, fault: LoadFault) -> Result<(), LoadFault>
-        ensures { Reads (λ x. (x, self.new)) result ((fixed quad value fault).read self.old) }
+    pub fn expect_u32(&mut self, value: u32, fault: LoadFault) -> Result<(), LoadFault>
+        ensures { Reads (λ x. (x, self.new)) result ((fixed next_u32 value fault).read self.old) }
     {
-        require(self.quad()? == value, fault)
+        require(self.next_u32()? == value, fault)
     }
 
     pub fn unused_pairs(&mut self, count: u8) -> Result<(), LoadFault>
-        ensures { Reads (λ x. (x, self.new)) result ((unused count pair NotZero).read self.old) }
+        ensures { Reads (λ x. (x, self.new)) result ((unused count next_u16 NotZero).read self.old) }
     {
         for _ in 0..count {
-            self.fixed_pair(0, LoadFault::NotZero)?;
+            self.expect_u16(0, LoadFault::NotZero)?;
         }
         Ok(())
     }

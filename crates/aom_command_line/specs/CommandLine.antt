@@ -246,7 +246,7 @@ pub record LacksText (id : Text) (rows : List Row) : Type 0 where
   pub unassembled : one_of (codes "asm") rows ≢ Some (codes "true")
 
 -- the words found for a command ask for lines and for an explanation
-pub record AsksTwoTellings (rows : List Row) : Type 0 where
+pub record AsksTwoReportings (rows : List Row) : Type 0 where
   pub lined : one_of (codes "lines") rows ≢ Some (codes "false")
   pub explained : one_of (codes "explain") rows ≢ Some (codes "false")
 
@@ -258,7 +258,7 @@ DeclinesText rows used faults.Memory = Unit {0}
 
 -- why lines are refused
 abbrev pub DeclinesLines : List Row → WordsFault → Type 0
-DeclinesLines rows (faults.Text text) = AsksTwoTellings rows ⊎ LacksText (codes "lines") rows
+DeclinesLines rows (faults.Text text) = AsksTwoReportings rows ⊎ LacksText (codes "lines") rows
 DeclinesLines rows faults.Native = ⊥
 DeclinesLines rows faults.Memory = Unit {0}
 
@@ -307,7 +307,7 @@ NamesNoNatives (Some met) = ((met.0 ≡ codes "run") ⊎ (met.0 ≡ codes "explo
 abbrev pub HasNoUseForText : Option (Text × List Row) → Type 0
 HasNoUseForText None = ⊥
 HasNoUseForText (Some met) =
-    ((met.0 ≡ codes "check") × (LacksUse (codes "explain" ∷ codes "lines" ∷ codes "prices" ∷ []) met.1 ⊎ NamesTwoTexts met.1 ⊎ LacksText (codes "lines") met.1 ⊎ AsksTwoTellings met.1))
+    ((met.0 ≡ codes "check") × (LacksUse (codes "explain" ∷ codes "lines" ∷ codes "prices" ∷ []) met.1 ⊎ NamesTwoTexts met.1 ⊎ LacksText (codes "lines") met.1 ⊎ AsksTwoReportings met.1))
     ⊎ ((met.0 ≡ codes "run") × (LacksUse (codes "explain" ∷ codes "names" ∷ []) met.1 ⊎ NamesTwoTexts met.1 ⊎ LacksText (codes "names") met.1))
     ⊎ (((met.0 ≡ codes "explore") ⊎ (met.0 ≡ codes "debug") ⊎ (met.0 ≡ codes "dot")) × NamesTwoTexts met.1)
 

@@ -133,7 +133,7 @@ pub struct TriesWords {
 }
 
 /// The most natives that a command line may name.
-const MOST_NATIVES: usize = 16;
+const MAX_NATIVES: usize = 16;
 
 /// The program's version. Its number stands here alone: the tools take it from this line.
 const VERSION: &str = "0.1.0";
@@ -651,7 +651,7 @@ fn natives_of(alloc: Global, own: &ArgMatches) -> Result<Vec<NativeKind>, WordsF
     let Some(words) = own.get_strs("NATIVE") else {
         return Ok(Vec::new(alloc));
     };
-    if words.len() > MOST_NATIVES {
+    if words.len() > MAX_NATIVES {
         return Err(WordsFault::Native);
     }
     kinds_of(alloc, words)

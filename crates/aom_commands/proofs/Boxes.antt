@@ -6,16 +6,16 @@ use Rattle.std.proofs.lemmas.List.{take_more}
 use Rattle.aom_natives.specs.Owed.{OweNothing}
 use Rattle.aom_natives.specs.declared.kind.NativeKind.{NativeKind}
 use Rattle.aom_natives.specs.declared.kind.NativeKind.TheVariants.{Counter}
-use Rattle.aom_commands.specs.Beside.{AllNew, AreNew, Stance, StandsAs, new_of}
+use Rattle.aom_commands.specs.Beside.{AllNew, AreNew, NativeModel, StandsAs, new_of}
 
 -- what is the same stands so
-pub stands_same : (it that : Stance) → it ≡ that → StandsAs it that
+pub stands_same : (it that : NativeModel) → it ≡ that → StandsAs it that
 stands_same it that same = search (arith, nat_tests)
 
-new_owes : (it : Stance) (kind : NativeKind) → StandsAs it (new_of kind) → it.owed ≡ []
+new_owes : (it : NativeModel) (kind : NativeKind) → StandsAs it (new_of kind) → it.owed ≡ []
 new_owes it x stands = grind arith
 
-module _ {B : Type 0} (stance : B → Stance) where
+module _ {B : Type 0} (stance : B → NativeModel) where
   pub owe_nothing : (kinds : List NativeKind) (boxes : List B) → AreNew stance kinds boxes → OweNothing (λ b. (stance b).owed) boxes
   owe_nothing [] [] new = tt
   owe_nothing (k ∷ ks) (b ∷ bs) new = (new_owes (stance b) k new.0, owe_nothing ks bs new.1)

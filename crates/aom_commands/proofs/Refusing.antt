@@ -7,11 +7,11 @@ use Rattle.aom_codec.specs.Format.{first_fault}
 use Rattle.aom_codec.specs.declared.fault.LoadFault.{LoadFault}
 use Rattle.aom_codec.specs.declared.fault.LoadFault.TheVariants as loads
 use Rattle.aom_image.specs.Image.{Image}
-use Rattle.aom_classes.specs.Faults.{Fails, RefusesOrWants as RefusesOrWantsLink}
-use Rattle.aom_classes.specs.declared.fault.LinkFault.{LinkFault}
-use Rattle.aom_classes.specs.Linked.{IsLinked}
-use Rattle.aom_rules.specs.Typing.{Typing, IsTyped}
-use Rattle.aom_typings.specs.Strongest.{IsStrongest}
+use Rattle.aom_link_conditions.specs.Faults.{Fails, RefusesOrWants as RefusesOrWantsLink}
+use Rattle.aom_link_conditions.specs.declared.fault.LinkFault.{LinkFault}
+use Rattle.aom_link_conditions.specs.Linked.{IsLinked}
+use Rattle.aom_typing_rules.specs.Typing.{Typing, IsTyped}
+use Rattle.aom_static_bounds.specs.Strongest.{IsStrongest}
 use Rattle.aom_budget.specs.Faults.{RefusesOrWants as RefusesBudget}
 use Rattle.aom_budget.specs.declared.fault.BudgetFault.{BudgetFault}
 use Rattle.aom_verify.specs.Refusals.{RefusesOrWants as RefusesOrWantsTyping}
@@ -19,7 +19,7 @@ use Rattle.aom_verify.specs.declared.refusal.Refusal.{Refusal}
 use Rattle.aom_verify.specs.declared.refusal.Refusal.TheVariants as refusals
 use Rattle.aom_commands.specs.declared.faults.Fault.TheVariants.{Memory}
 use Rattle.aom_commands.specs.Status.{of_load, of_link, of_refusal, of_budget}
-use Rattle.aom_commands.specs.Acceptable.{IsSpelled, IsAcceptable, RefusesOrWants}
+use Rattle.aom_commands.specs.Acceptable.{IsSerialized, IsAcceptable, RefusesOrWants}
 use Rattle.aom_commands.specs.Prices.{IsEarly, StopsEarly}
 
 -- what the exit of a `?` returns has no value
@@ -46,30 +46,30 @@ unfolding RefusesOrWantsLink Fails
 linked_memory p x refused a = grind arith
 
 -- a fault of linking is one on the way
-link_refused : (bytes : List ℕ) (p : Image) (fault : LinkFault) → IsSpelled bytes p → RefusesOrWantsLink p fault → RefusesOrWants bytes (of_link fault)
+link_refused : (bytes : List ℕ) (p : Image) (fault : LinkFault) → IsSerialized bytes p → RefusesOrWantsLink p fault → RefusesOrWants bytes (of_link fault)
 unfolding RefusesOrWantsLink
-link_refused bytes p fault spelled refused = grind arith
+link_refused bytes p fault serialized refused = grind arith
 
 -- and so is one of the typing
-typing_refused : (bytes : List ℕ) (p : Image) (refusal : Refusal) → IsSpelled bytes p → IsLinked p → RefusesOrWantsTyping p refusal →
+typing_refused : (bytes : List ℕ) (p : Image) (refusal : Refusal) → IsSerialized bytes p → IsLinked p → RefusesOrWantsTyping p refusal →
     RefusesOrWants bytes (of_refusal refusal)
-typing_refused bytes p x spelled linked refused = grind arith
+typing_refused bytes p x serialized linked refused = grind arith
 
 -- ---- faults before budgets
 
 pub load_stops : (bytes : List ℕ) (fault : LoadFault) → (fault ≢ loads.OutOfMemory → first_fault bytes ≡ Some fault) →
-    ((p : Image) → IsSpelled bytes p → fault ≡ loads.OutOfMemory) → StopsEarly bytes (of_load fault)
+    ((p : Image) → IsSerialized bytes p → fault ≡ loads.OutOfMemory) → StopsEarly bytes (of_load fault)
 load_stops bytes fault is only = search (arith, nat_tests, load_refused bytes fault is, load_early fault)
 
-pub link_stops : (bytes : List ℕ) (p : Image) (fault : LinkFault) → IsSpelled bytes p → ((q : Image) → IsSpelled bytes q → p ≡ q) → RefusesOrWantsLink p fault →
+pub link_stops : (bytes : List ℕ) (p : Image) (fault : LinkFault) → IsSerialized bytes p → ((q : Image) → IsSerialized bytes q → p ≡ q) → RefusesOrWantsLink p fault →
     StopsEarly bytes (of_link fault)
-link_stops bytes p fault spelled only refused =
-    search (arith, nat_tests, link_refused bytes p fault spelled refused, link_early fault, linked_memory p fault refused)
+link_stops bytes p fault serialized only refused =
+    search (arith, nat_tests, link_refused bytes p fault serialized refused, link_early fault, linked_memory p fault refused)
 
-pub refusal_stops : (bytes : List ℕ) (p : Image) (refusal : Refusal) → IsSpelled bytes p → IsLinked p → ((q : Image) → IsSpelled bytes q → p ≡ q) →
+pub refusal_stops : (bytes : List ℕ) (p : Image) (refusal : Refusal) → IsSerialized bytes p → IsLinked p → ((q : Image) → IsSerialized bytes q → p ≡ q) →
     RefusesOrWantsTyping p refusal → ((t : Typing) → IsTyped p t → refusal ≡ refusals.OutOfMemory) → StopsEarly bytes (of_refusal refusal)
-refusal_stops bytes p refusal spelled linked only refused typed =
-    search (arith, nat_tests, typing_refused bytes p refusal spelled linked refused, refusal_early refusal)
+refusal_stops bytes p refusal serialized linked only refused typed =
+    search (arith, nat_tests, typing_refused bytes p refusal serialized linked refused, refusal_early refusal)
 
 -- ---- budgets
 
@@ -78,5 +78,5 @@ has_typing : (p q : Image) → q ≡ p → (t : Typing) × IsStrongest q t → (
 has_typing p q same typing = subst (λ (r : Image). (t : Typing) × IsTyped r t) same (typing.0, typing.1.typed)
 
 pub budget_refused : (bytes : List ℕ) (p q : Image) (fault : BudgetFault) →
-    IsSpelled bytes p → IsLinked p → q ≡ p → (t : Typing) × IsStrongest q t → RefusesBudget q fault → RefusesOrWants bytes (of_budget fault)
-budget_refused bytes p q fault spelled linked same typing h = grind arith
+    IsSerialized bytes p → IsLinked p → q ≡ p → (t : Typing) × IsStrongest q t → RefusesBudget q fault → RefusesOrWants bytes (of_budget fault)
+budget_refused bytes p q fault serialized linked same typing h = grind arith

@@ -13,21 +13,21 @@ use Rattle.aom_semantics.specs.World.{Environment, Run_of, boot_state}
 use Rattle.aom_transcript.specs.declared.line.Ending.{Ending}
 use Rattle.aom_transcript.specs.declared.line.Line.{Line}
 use Rattle.aom_transcript.specs.Text.{line_text}
-use Rattle.aom_run.specs.Calls.{StandsFor, natives_of}
-use Rattle.aom_run.specs.declared.machine.Machine.{Machine}
+use Rattle.aom_run.specs.Calls.{RefinesWithNatives, natives_of}
+use Rattle.aom_run.specs.declared.machine.HostedMachine.{HostedMachine}
 use Rattle.aom_run.specs.Outcomes.{outcome_of}
 use Rattle.aom_transcript.specs.declared.event.TimedEvent.{TimedEvent}
-use Rattle.aom_run.specs.Runs.{IsFresh, Ran, Told}
+use Rattle.aom_run.specs.Runs.{IsFresh, Ran, Reported}
 use Rattle.aom_transcript.specs.Sinks.{after}
 use Rattle.aom_run.specs.declared.outcome.Outcome.{Outcome}
 use Rattle.aom_script.specs.Script.{Script}
 use Rattle.aom_commands.proofs.TranscriptLemmas.{after_both, after_none, cut_next}
 use Rattle.aom_transcript.specs.Text.{transcript}
-use Rattle.aom_injection.specs.Planned.{clients_among, deaths_of, marks_times, natives_among, pairs_of, part_of, planned, some_pairs, unplanned}
-use Rattle.aom_injection.specs.Tallies.{Tally, counted, nothing_counted, tally_of}
-use Rattle.aom_injection.specs.declared.injection.Injection.{Injection}
-use Rattle.aom_injection.specs.declared.injection.Injection.TheVariants.{Refusal}
-use Rattle.aom_injection.specs.declared.tries.Tries.{Tries}
+use Rattle.aom_fault_injection.specs.Planned.{clients_among, deaths_of, marks_times, natives_among, pairs_of, part_of, planned, some_pairs, unplanned}
+use Rattle.aom_fault_injection.specs.OutcomeTables.{OutcomeCounts, counted, nothing_counted, outcome_counts_of}
+use Rattle.aom_fault_injection.specs.declared.injection.Injection.{Injection}
+use Rattle.aom_fault_injection.specs.declared.injection.Injection.TheVariants.{Refusal}
+use Rattle.aom_fault_injection.specs.declared.tries.Tries.{Tries}
 use Rattle.aom_commands.specs.Explored.{Begun, EachTried, Explored, Finished, HasPlain, IsLast, Plans, Tried, TriesAll, closing, kept_text}
 use Rattle.aom_commands.specs.Explored.EachTried.{and_one, none}
 use Rattle.aom_commands.specs.Headline.{HasNatives, RefusesBoot, Says, Sent, outside_of}
@@ -62,22 +62,22 @@ says_nothing sent same = record { count = 0; part = same ∙ after_none sent.bef
 
 module _ (p : Image) (script : Script) (limit natives : ℕ) (injections : List Injection) where
   -- the first so many were tried, and how they ended is counted
-  pub record SoFar (place : ℕ) (tally : Tally) (sent : Sent) : Type 0 where
+  pub record SoFar (place : ℕ) (outcome_counts : OutcomeCounts) (sent : Sent) : Type 0 where
     pub endings : List Ending
     pub text : List ℕ
     pub tried : EachTried p script limit natives (take place injections) endings text
     pub says : Says text sent
-    pub counts : tally ≡ tally_of endings
-    pub many : tally.tries ≡ place
+    pub counts : outcome_counts ≡ outcome_counts_of endings
+    pub many : outcome_counts.tries ≡ place
 
-  pub start : (tally : Tally) (sent : Sent) → tally ≡ nothing_counted → sent.now ≡ sent.before → SoFar 0 tally sent
-  start tally sent is same = record { endings = []; text = []; tried = none; says = says_nothing sent same; counts = is; many = ap (λ (t : Tally). t.tries) is }
+  pub start : (outcome_counts : OutcomeCounts) (sent : Sent) → outcome_counts ≡ nothing_counted → sent.now ≡ sent.before → SoFar 0 outcome_counts sent
+  start outcome_counts sent is same = record { endings = []; text = []; tried = none; says = says_nothing sent same; counts = is; many = ap (λ (t : OutcomeCounts). t.tries) is }
 
-  counts_one : (tally : Tally) (ending : Ending) → (counted tally ending).tries ≡ tally.tries + 1
-  counts_one tally x = grind arith
+  counts_one : (outcome_counts : OutcomeCounts) (ending : Ending) → (counted outcome_counts ending).tries ≡ outcome_counts.tries + 1
+  counts_one outcome_counts x = grind arith
 
   -- one more was
-  pub one_more : (place : ℕ) (old new : Tally) (mid sent : Sent) (injection other : Injection) (ending : Ending) (line : List ℕ) → place < length injections →
+  pub one_more : (place : ℕ) (old new : OutcomeCounts) (mid sent : Sent) (injection other : Injection) (ending : Ending) (line : List ℕ) → place < length injections →
       injection ≡ get_or injections place other → SoFar place old mid → mid.failed ≡ false → mid.before ≡ sent.before → Tried p script limit natives injection
       ending line → Says line (record { before = mid.now; now = sent.now; failed = sent.failed }) → new ≡ counted old ending → SoFar (place + 1) new sent
   one_more place old new mid sent injection other ending line within is far lives same tried says counts =
@@ -91,15 +91,15 @@ module _ (p : Image) (script : Script) (limit natives : ℕ) (injections : List 
             (and_one injection ending line far.tried tried);
         says = says_on far.text line mid sent far.says lives same says;
         counts = counts ∙ ap (λ t. counted t ending) far.counts ∙ sym (fold-append counted nothing_counted far.endings (ending ∷ []));
-        many = ap (λ (t : Tally). t.tries) counts ∙ counts_one old ending ∙ ap (λ n. n + 1) far.many;
+        many = ap (λ (t : OutcomeCounts). t.tries) counts ∙ counts_one old ending ∙ ap (λ n. n + 1) far.many;
       }
 
-  abbrev pub begun : (place : ℕ) (tally : Tally) (sent : Sent) → SoFar place tally sent → Begun p script limit natives injections sent
-  begun place tally sent far = record { count = place; endings = far.endings; text = far.text; tried = far.tried; says = far.says }
+  abbrev pub begun : (place : ℕ) (outcome_counts : OutcomeCounts) (sent : Sent) → SoFar place outcome_counts sent → Begun p script limit natives injections sent
+  begun place outcome_counts sent far = record { count = place; endings = far.endings; text = far.text; tried = far.tried; says = far.says }
 
-  pub all_tried : (place : ℕ) (tally : Tally) (sent : Sent) → SoFar place tally sent → (sent.failed ≡ false → length injections ≤ place) →
-      TriesAll p script limit natives injections tally sent
-  all_tried place tally sent far all = record { begun = begun place tally sent far; counts = far.counts; all = λ lives. take_all place injections (all lives) }
+  pub all_tried : (place : ℕ) (outcome_counts : OutcomeCounts) (sent : Sent) → SoFar place outcome_counts sent → (sent.failed ≡ false → length injections ≤ place) →
+      TriesAll p script limit natives injections outcome_counts sent
+  all_tried place outcome_counts sent far all = record { begun = begun place outcome_counts sent far; counts = far.counts; all = λ lives. take_all place injections (all lives) }
 
 -- ---- what is tried, by the run as it is
 
@@ -130,10 +130,10 @@ plans p script limit natives tries requests times injections left plain is left_
 
 -- the closing lines went out behind the others, unless the sink had failed
 pub explored_so : (p : Image) (script : Script) (limit natives : ℕ) (tries : Tries) (injections : List Injection) (left : Option Injection)
-    (tally : Tally) (mid sent : Sent) → Plans p script limit natives tries injections left → TriesAll p script limit natives injections tally mid →
-    mid.before ≡ sent.before → (mid.failed ≡ false → Says (closing tries left tally) (record { before = mid.now; now = sent.now; failed = sent.failed })) →
+    (outcome_counts : OutcomeCounts) (mid sent : Sent) → Plans p script limit natives tries injections left → TriesAll p script limit natives injections outcome_counts mid →
+    mid.before ≡ sent.before → (mid.failed ≡ false → Says (closing tries left outcome_counts) (record { before = mid.now; now = sent.now; failed = sent.failed })) →
     (mid.failed ≡ true → (sent.now ≡ mid.now) × (sent.failed ≡ true)) → Explored p script limit natives tries sent
-explored_so p script limit natives tries injections left tally mid sent plans all same says stays =
+explored_so p script limit natives tries injections left outcome_counts mid sent plans all same says stays =
     record { injections = injections; left = left; plans = plans; ends = go mid.failed refl }
   where
     go : (failed : Bool) → mid.failed ≡ failed →
@@ -154,27 +154,27 @@ explored_so p script limit natives tries injections left tally mid sent plans al
 -- ---- a run to its end
 
 module _ {X : Type 0} {B : X → Type 0} where
-  told_of : {reads : Line → List ℕ} (m new : Machine X B) (outside : Environment) (ending : Ending) (failed : Bool) (before now : Option (List ℕ)) →
-      Ran reads m outside (outcome_of ending) failed before now new → Told reads m.core.image outside ending before now new
-  told_of m new outside x failed before now ran = grind arith
+  reported_of : {reads : Line → List ℕ} (m new : HostedMachine X B) (outside : Environment) (ending : Ending) (failed : Bool) (before now : Option (List ℕ)) →
+      Ran reads m outside (outcome_of ending) failed before now new → Reported reads m.core.image outside ending before now new
+  reported_of m new outside x failed before now ran = grind arith
 
   -- how it ended, with how many cells and after how many requests, the machine tells; its transcript went out
-  pub last_so : (p : Image) (m new : Machine X B) (outside : Environment) (outcome : Outcome)
+  pub last_so : (p : Image) (m new : HostedMachine X B) (outside : Environment) (outcome : Outcome)
       (ending : Ending) (failed : Bool) (before now : Option (List ℕ)) (cells requests : ℕ) → m.core.image ≡ p → outcome ≡ outcome_of ending →
-      Ran line_text m outside outcome failed before now new → ((s : State) → StandsFor new s → (cells ≡ count_cells s.cells) × (requests ≡ s.rest.requests)) →
+      Ran line_text m outside outcome failed before now new → ((s : State) → RefinesWithNatives new s → (cells ≡ count_cells s.cells) × (requests ≡ s.rest.requests)) →
       (text : List ℕ) × IsLast p outside (record { ending = ending; cells = cells; requests = requests }) text × (now ≡ after before text)
-  last_so p m new outside outcome ending failed before now cells requests image is ran tells =
-      let told = told_of m new outside ending failed before now (subst (λ o. Ran line_text m outside o failed before now new) is ran) in (
-        transcript told.lines ending (count_cells told.state.cells),
+  last_so p m new outside outcome ending failed before now cells requests image is ran reports =
+      let reported = reported_of m new outside ending failed before now (subst (λ o. Ran line_text m outside o failed before now new) is ran) in (
+        transcript reported.lines ending (count_cells reported.state.cells),
         record {
-          lines = told.lines;
-          state = told.state;
-          run = subst (λ q. Run_of q outside told.lines told.state ending) image told.run;
-          cells = (tells told.state told.stands).0;
-          requests = (tells told.state told.stands).1;
+          lines = reported.lines;
+          state = reported.state;
+          run = subst (λ q. Run_of q outside reported.lines reported.state ending) image reported.run;
+          cells = (reports reported.state reported.stands).0;
+          requests = (reports reported.state reported.stands).1;
           text_is = refl;
         },
-        told.out,
+        reported.out,
       )
 
 -- what is kept, where it is
@@ -189,12 +189,12 @@ pub given_all : {L B : Type 0} (native : L → B) (slots : List (Option L)) (box
 given_all {L} {B} native slots boxes same = grind (arith, nat_tests, length-map)
 
 -- a machine that has not run is fresh
-pub fresh_so : {X : Type 0} {B : X → Type 0} (p : Image) (m : Machine X B) → m.core.image ≡ p → StandsFor m (boot_state p) → IsFresh m
-fresh_so p m image stands = subst (λ q. StandsFor m (boot_state q)) (sym image) stands
+pub fresh_so : {X : Type 0} {B : X → Type 0} (p : Image) (m : HostedMachine X B) → m.core.image ≡ p → RefinesWithNatives m (boot_state p) → IsFresh m
+fresh_so p m image stands = subst (λ q. RefinesWithNatives m (boot_state q)) (sym image) stands
 
 -- and has as many natives as its image names
-pub has_enough : {X : Type 0} {B : X → Type 0} (p : Image) (m : Machine X B) (natives : ℕ) → m.core.image ≡ p → natives_of m ≡ natives →
-    StandsFor m (boot_state p) → HasNatives p natives
+pub has_enough : {X : Type 0} {B : X → Type 0} (p : Image) (m : HostedMachine X B) (natives : ℕ) → m.core.image ≡ p → natives_of m ≡ natives →
+    RefinesWithNatives m (boot_state p) → HasNatives p natives
 has_enough p m natives image count stands = grind (arith, nat_tests)
 
 -- want of memory is told of a machine that has them

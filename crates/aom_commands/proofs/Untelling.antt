@@ -4,17 +4,17 @@ use Rattle.aom_transcript.specs.Sinks.{after}
 use Rattle.aom_commands.specs.declared.status.ExitStatus.{ExitStatus}
 use Rattle.aom_commands.specs.declared.faults.Fault.{Fault}
 use Rattle.aom_commands.specs.Headline.{Says, Sent}
-use Rattle.aom_commands.specs.Untold.{Answered, Untold}
+use Rattle.aom_commands.specs.Unreported.{Answered, Unreported}
 
-pub untold_weaker : (one other : Sent → ExitStatus → Type 0) (found : Result ExitStatus Fault) →
-    ((errors : Sent) (status : ExitStatus) → one errors status → other errors status) → Untold one found → Untold other found
-untold_weaker one other x follows untold = grind arith
+pub unreported_weaker : (one other : Sent → ExitStatus → Type 0) (found : Result ExitStatus Fault) →
+    ((errors : Sent) (status : ExitStatus) → one errors status → other errors status) → Unreported one found → Unreported other found
+unreported_weaker one other x follows unreported = grind arith
 
 -- what was not told yet is told
 pub answered : (answers : Sent → ExitStatus → Type 0) (found : Result ExitStatus Fault) (errors : Sent) (status : ExitStatus) →
-    Untold answers found → Answered found errors status → answers errors status
-answered answers (Ok found) errors status untold told = subst (answers errors) (sym told.0) (untold errors told.1)
-answered answers (Err fault) errors status untold told = untold errors status told
+    Unreported answers found → Answered found errors status → answers errors status
+answered answers (Ok found) errors status unreported reported = subst (answers errors) (sym reported.0) (unreported errors reported.1)
+answered answers (Err fault) errors status unreported reported = unreported errors status reported
 
 -- what is said of a text is said of an equal one
 pub says_same : (given text : List ℕ) (sent : Sent) → given ≡ text → Says given sent → Says text sent

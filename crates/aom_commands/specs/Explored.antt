@@ -9,12 +9,12 @@ use Rattle.aom_transcript.specs.declared.line.Ending.{Ending}
 use Rattle.aom_transcript.specs.declared.line.Line.{Line}
 use Rattle.aom_script.specs.Script.{Script, WantsMemory}
 use Rattle.aom_script.specs.declared.fault.ScriptFault.{ScriptFault}
-use Rattle.aom_injection.specs.Injections.{injected, injection_text}
-use Rattle.aom_injection.specs.Planned.{asks_more, planned, times_in, unplanned}
-use Rattle.aom_injection.specs.Tallies.{Tally, closing_text, tally_of}
-use Rattle.aom_injection.specs.declared.injection.Injection.{Injection}
-use Rattle.aom_injection.specs.declared.tries.Tries.{Tries}
-use Rattle.aom_commands.specs.Headline.{Accepts, HasNatives, ImageWantsMemory, IsNoScript, IsRefused, IsSilent, Runs, Says, Sent, Tells, WantsNatives, outside_of}
+use Rattle.aom_fault_injection.specs.Injections.{injected, injection_text}
+use Rattle.aom_fault_injection.specs.Planned.{asks_more, planned, times_in, unplanned}
+use Rattle.aom_fault_injection.specs.OutcomeTables.{OutcomeCounts, closing_text, outcome_counts_of}
+use Rattle.aom_fault_injection.specs.declared.injection.Injection.{Injection}
+use Rattle.aom_fault_injection.specs.declared.tries.Tries.{Tries}
+use Rattle.aom_commands.specs.Headline.{Accepts, HasNatives, ImageWantsMemory, IsNoScript, IsRefused, IsSilent, RunsSafely, Says, Sent, ReportsFault, WantsNatives, outside_of}
 use Rattle.aom_commands.specs.declared.exploring.RunEnd.{RunEnd}
 use Rattle.aom_natives.specs.declared.fault.BootFault.TheVariants.{TooFewNatives}
 use Rattle.aom_commands.specs.declared.faults.Fault.{Fault}
@@ -77,21 +77,21 @@ pub record Begun (p : Image) (script : Script) (limit natives : ℕ) (injections
   pub says : Says text sent
 
 -- so many were, with that tally: all, unless the sink has failed
-pub record TriesAll (p : Image) (script : Script) (limit natives : ℕ) (injections : List Injection) (tally : Tally) (sent : Sent) : Type 0 where
+pub record TriesAll (p : Image) (script : Script) (limit natives : ℕ) (injections : List Injection) (outcome_counts : OutcomeCounts) (sent : Sent) : Type 0 where
   pub begun : Begun p script limit natives injections sent
-  pub counts : tally ≡ tally_of begun.endings
+  pub counts : outcome_counts ≡ outcome_counts_of begun.endings
   pub all : sent.failed ≡ false → take begun.count injections ≡ injections
 
 -- what is written at the end
-abbrev pub closing : Tries → Option Injection → Tally → List ℕ
-closing tries left tally = if asks_more tries then closing_text left tally else []
+abbrev pub closing : Tries → Option Injection → OutcomeCounts → List ℕ
+closing tries left outcome_counts = if asks_more tries then closing_text left outcome_counts else []
 
 -- all were tried, and their lines went out with what is written at the end, or a beginning of that where the sink has failed
 pub record Finished (p : Image) (script : Script) (limit natives : ℕ) (tries : Tries) (injections : List Injection) (left : Option Injection) (sent : Sent) : Type 0 where
   pub endings : List Ending
   pub text : List ℕ
   pub tried : EachTried p script limit natives injections endings text
-  pub says : Says (text ++ closing tries left (tally_of endings)) sent
+  pub says : Says (text ++ closing tries left (outcome_counts_of endings)) sent
 
 -- what is planned was tried, or the sink has failed before
 pub record Explored (p : Image) (script : Script) (limit natives : ℕ) (tries : Tries) (sent : Sent) : Type 0 where
@@ -118,13 +118,13 @@ BreaksOff p script limit natives tries sent _ = ⊥
 
 -- of an accepted image: memory was wanting for the script, or for one of the machines and its natives, or the output failed
 pub data ExploreBreaks (bytes text : List ℕ) (limit natives : ℕ) (tries : Tries) (out errors : Sent) : Type 0 where
-  script_wants_memory : IsSilent out → Accepts bytes → (fault : ScriptFault) → WantsMemory text fault → Tells faults.Memory errors → ExploreBreaks bytes text limit natives tries out errors
-  machine_wants_memory : (r : Runs bytes text limit natives) → Stops r.image r.script limit natives tries out → Tells faults.Memory errors → ExploreBreaks bytes text limit natives tries out errors
-  output_fails : (r : Runs bytes text limit natives) → HasNatives r.image natives → Explored r.image r.script limit natives tries out → out.failed ≡ true → Tells faults.Write errors → ExploreBreaks bytes text limit natives tries out errors
+  script_wants_memory : IsSilent out → Accepts bytes → (fault : ScriptFault) → WantsMemory text fault → ReportsFault faults.Memory errors → ExploreBreaks bytes text limit natives tries out errors
+  machine_wants_memory : (r : RunsSafely bytes text limit natives) → Stops r.image r.script limit natives tries out → ReportsFault faults.Memory errors → ExploreBreaks bytes text limit natives tries out errors
+  output_fails : (r : RunsSafely bytes text limit natives) → HasNatives r.image natives → Explored r.image r.script limit natives tries out → out.failed ≡ true → ReportsFault faults.Write errors → ExploreBreaks bytes text limit natives tries out errors
 
 -- what each status says of a call of `explore` whose image is accepted
 abbrev pub AcceptedExplores : List ℕ → List ℕ → (limit natives : ℕ) → Tries → Sent → Sent → ExitStatus → Type 0
-AcceptedExplores bytes text limit natives tries out errors Done = (r : Runs bytes text limit natives) × HasNatives r.image natives × Explored r.image r.script limit natives tries out × (out.failed ≡ false) × IsSilent errors
+AcceptedExplores bytes text limit natives tries out errors Done = (r : RunsSafely bytes text limit natives) × HasNatives r.image natives × Explored r.image r.script limit natives tries out × (out.failed ≡ false) × IsSilent errors
 AcceptedExplores bytes text limit natives tries out errors CallRefused = IsNoScript bytes text out errors ⊎ WantsNatives bytes text natives out errors
 AcceptedExplores bytes text limit natives tries out errors Faulty = ExploreBreaks bytes text limit natives tries out errors
 AcceptedExplores bytes text limit natives tries out errors ImageRefused = ⊥

@@ -3,19 +3,19 @@ use Rattle.std.specs.Prelude.{ℕ, ◌≡◌, ◌<◌, ◌≤◌, ◌⊎◌, Boo
 use Rattle.aom_image.specs.Image.{Image}
 use Rattle.aom_semantics.specs.Places.{count_cells}
 use Rattle.aom_semantics.specs.State.{State}
-use Rattle.aom_run.specs.Turns.{hearing}
+use Rattle.aom_run.specs.Turns.{observing}
 use Rattle.aom_semantics.specs.World.{Environment, Run_of}
 use Rattle.aom_transcript.specs.declared.line.Line.{Line}
 use Rattle.aom_transcript.specs.declared.line.Ending.{Ending}
 use Rattle.aom_transcript.specs.declared.line.Ending.TheVariants as endings
-use Rattle.aom_determinism.specs.Hearing.{Follows, Oracle}
+use Rattle.aom_determinism.specs.Observing.{Follows, Oracle}
 use Rattle.aom_determinism.specs.Determined.{IsDetermined}
 use Rattle.aom_natives.specs.declared.fault.BootFault.TheVariants.{TooFewNatives}
-use Rattle.aom_run.specs.declared.machine.Machine.{Machine}
+use Rattle.aom_run.specs.declared.machine.HostedMachine.{HostedMachine}
 use Rattle.aom_transcript.specs.Text.{ended, line_text}
 use Rattle.aom_transcript.specs.Naming.{transcript_by}
-use Rattle.aom_progress.specs.Runs.{RunsWell}
-use Rattle.aom_progress.specs.Laws.{KeepsBudget}
+use Rattle.aom_termination.specs.Runs.{RunsWell}
+use Rattle.aom_termination.specs.Laws.{KeepsBudget}
 use Rattle.aom_run.specs.declared.outcome.Outcome.{Outcome}
 use Rattle.aom_run.specs.declared.outcome.Outcome.TheVariants as outcomes
 use Rattle.aom_run.specs.Runs.{CutShort, IsFresh}
@@ -27,7 +27,7 @@ use Rattle.aom_commands.specs.declared.status.ExitStatus.TheVariants.{Done, Imag
 use Rattle.aom_commands.specs.declared.faults.Fault.{Fault}
 use Rattle.aom_commands.specs.declared.faults.Fault.TheVariants as faults
 use Rattle.aom_commands.specs.Status.{fault_line, status_of}
-use Rattle.aom_commands.specs.Acceptable.{IsSpelled, IsAcceptable, Refuses}
+use Rattle.aom_commands.specs.Acceptable.{IsSerialized, IsAcceptable, Refuses}
 
 -- a sink over a call: what was out before it and what is out after it, where the sink tells, and whether it has failed then
 pub record Sent : Type 0 where
@@ -46,18 +46,18 @@ pub record Says (text : List ℕ) (sent : Sent) : Type 0 where
   pub whole : sent.failed ≡ false → sent.now ≡ after sent.before text
 
 -- the line of a fault went out
-abbrev pub Tells : Fault → Sent → Type 0
-Tells fault sent = Says (ended (fault_line fault)) sent
+abbrev pub ReportsFault : Fault → Sent → Type 0
+ReportsFault fault sent = Says (ended (fault_line fault)) sent
 
 -- a fault is told with its status
-abbrev pub Told : Fault → ExitStatus → Sent → Type 0
-Told fault status errors = (status ≡ status_of fault) × Tells fault errors
+abbrev pub Reported : Fault → ExitStatus → Sent → Type 0
+Reported fault status errors = (status ≡ status_of fault) × ReportsFault fault errors
 
 -- a text went out with status 0, or the output has failed and that is told
 abbrev pub Sends : List ℕ → ExitStatus → Sent → Sent → Type 0
 Sends text status out errors =
     ((status ≡ Done) × (out.now ≡ after out.before text) × IsSilent errors)
-    ⊎ ((status ≡ Faulty) × (out.failed ≡ true) × Says text out × Tells faults.Write errors)
+    ⊎ ((status ≡ Faulty) × (out.failed ≡ true) × Says text out × ReportsFault faults.Write errors)
 
 -- a text that was due went out, and nothing was said to the errors
 abbrev pub Writes : (List ℕ → Type 0) → Sent → Sent → Type 0
@@ -69,19 +69,19 @@ pub record WriteFails (Due : List ℕ → Type 0) (out errors : Sent) : Type 0 w
   pub due : Due text
   pub failed : out.failed ≡ true
   pub says : Says text out
-  pub tells : Tells faults.Write errors
+  pub reports : ReportsFault faults.Write errors
 
 -- nothing went out, for a reason of one kind, and the errors say why
-pub record RefusedFor {F : Type 0} (line : F → Fault) (Why : F → Type 0) (out errors : Sent) : Type 0 where
+pub record RefusedFor {F : Type 0} (line : F → Fault) (Reason : F → Type 0) (out errors : Sent) : Type 0 where
   pub silent : IsSilent out
   pub reason : F
-  pub why : Why reason
-  pub tells : Tells (line reason) errors
+  pub why : Reason reason
+  pub reports : ReportsFault (line reason) errors
 
 -- memory was wanting on the way to an image, before anything went out. It says nothing of the image
 pub record ImageWantsMemory (out errors : Sent) : Type 0 where
   pub silent : IsSilent out
-  pub tells : Tells faults.Memory errors
+  pub reports : ReportsFault faults.Memory errors
 
 -- the transcript of a run of the checked machine went out
 pub record Transcribed (reads : Line → List ℕ) (p : Image) (outside : Environment) (ending : Ending) (sent : Sent) : Type 0 where
@@ -98,8 +98,8 @@ EndsAs reads ending sent lines last other = (other ≡ ending) × (sent.now ≡ 
 pub record IsOnly (reads : Line → List ℕ) (p : Image) (outside : Environment) (ending : Ending) (sent : Sent) (shown : Transcribed reads p outside ending sent) : Type 0 where
   pub oracle : Oracle
   pub follows : Follows oracle shown.run.reaches
-  pub hearing_same : (lines : List Line) (last : State) (other : Ending) (run : Run_of p outside lines last other) → Follows oracle run.reaches → EndsAs reads ending sent lines last other
-  pub hearing_none : p.header.natives ≡ 0 → (lines : List Line) (last : State) (other : Ending) → Run_of p outside lines last other → EndsAs reads ending sent lines last other
+  pub observing_same : (lines : List Line) (last : State) (other : Ending) (run : Run_of p outside lines last other) → Follows oracle run.reaches → EndsAs reads ending sent lines last other
+  pub observing_none : p.header.natives ≡ 0 → (lines : List Line) (last : State) (other : Ending) → Run_of p outside lines last other → EndsAs reads ending sent lines last other
 
 -- the sink has failed, and a beginning of such a transcript went out
 pub record Cut (reads : Line → List ℕ) (p : Image) (outside : Environment) (sent : Sent) : Type 0 where
@@ -122,37 +122,37 @@ Ends outcomes.Waiting status errors = (status ≡ Unfinished) × IsSilent errors
 Ends (outcomes.MainLeft code) status errors = (status ≡ Broken) × IsSilent errors
 Ends outcomes.Limit status errors = (status ≡ Unfinished) × IsSilent errors
 Ends (outcomes.Error answer) status errors = (status ≡ Broken) × IsSilent errors
-Ends outcomes.WriteFault status errors = Told faults.Write status errors
+Ends outcomes.WriteFault status errors = Reported faults.Write status errors
 
 -- the same of one that may not have been made, whose fault is told then
 abbrev pub EndsOrFails : Result Outcome Fault → ExitStatus → Sent → Type 0
 EndsOrFails (Ok outcome) status errors = Ends outcome status errors
-EndsOrFails (Err fault) status errors = Told fault status errors
+EndsOrFails (Err fault) status errors = Reported fault status errors
 
 -- the bytes are an accepted image
 pub record Accepts (bytes : List ℕ) : Type 0 where
   pub image : Image
-  pub spelled : IsSpelled bytes image
+  pub serialized : IsSerialized bytes image
   pub acceptable : IsAcceptable image
 
 -- every run of an image goes well within its declared steps, whatever comes from outside, and has one text
 pub record AllRunWell (p : Image) : Type 0 where
-  pub each : (bytes : List ℕ) → IsSpelled bytes p → (outside : Environment) → RunsWell p outside
-  pub within : (bytes : List ℕ) → IsSpelled bytes p → (outside : Environment) → KeepsBudget p outside
-  pub one : (bytes : List ℕ) → IsSpelled bytes p → (outside : Environment) → IsDetermined p outside
+  pub each : (bytes : List ℕ) → IsSerialized bytes p → (outside : Environment) → RunsWell p outside
+  pub within : (bytes : List ℕ) → IsSerialized bytes p → (outside : Environment) → KeepsBudget p outside
+  pub one : (bytes : List ℕ) → IsSerialized bytes p → (outside : Environment) → IsDetermined p outside
 
 -- a machine of that image that has not run
-abbrev pub IsFreshOf : {X : Type 0} {B : X → Type 0} → Image → Machine X B → Type 0
+abbrev pub IsFreshOf : {X : Type 0} {B : X → Type 0} → Image → HostedMachine X B → Type 0
 IsFreshOf p m = (m.core.image ≡ p) × IsFresh m
 
 -- what a script lets come from outside, beside so many natives, and the limit of the call
 abbrev pub outside_of : Script → (limit natives : ℕ) → Environment
-outside_of script limit natives = hearing script.refused limit natives script.timed
+outside_of script limit natives = observing script.refused limit natives script.timed
 
 -- they are, and the text is a script; each run of that image under that script and limit, beside so many natives, goes well within its declared steps, and none that hears the same of natives writes anything else than another
-pub record Runs (bytes text : List ℕ) (limit natives : ℕ) : Type 0 where
+pub record RunsSafely (bytes text : List ℕ) (limit natives : ℕ) : Type 0 where
   pub image : Image
-  pub spelled : IsSpelled bytes image
+  pub serialized : IsSerialized bytes image
   pub acceptable : IsAcceptable image
   pub script : Script
   pub denotes : denoted text ≡ Ok script
@@ -165,9 +165,9 @@ pub record IsRefused (bytes : List ℕ) (out errors : Sent) : Type 0 where
   pub silent : IsSilent out
   pub fault : Fault
   pub refuses : Refuses bytes fault
-  pub none : (p : Image) → IsSpelled bytes p → IsAcceptable p → ⊥
+  pub none : (p : Image) → IsSerialized bytes p → IsAcceptable p → ⊥
   pub status : status_of fault ≡ ImageRefused
-  pub tells : Tells fault errors
+  pub reports : ReportsFault fault errors
 
 -- the bytes are an accepted image, the text is no script, and the errors say why
 pub record IsNoScript (bytes text : List ℕ) (out errors : Sent) : Type 0 where
@@ -175,7 +175,7 @@ pub record IsNoScript (bytes text : List ℕ) (out errors : Sent) : Type 0 where
   pub accepts : Accepts bytes
   pub fault : ScriptFault
   pub denotes : denoted text ≡ Err fault
-  pub tells : Tells (faults.Script fault) errors
+  pub reports : ReportsFault (faults.Script fault) errors
 
 -- there are as many natives as the image names, or more
 abbrev pub HasNatives : Image → (natives : ℕ) → Type 0
@@ -188,7 +188,7 @@ pub record WantsNatives (bytes text : List ℕ) (natives : ℕ) (out errors : Se
   pub script : Script
   pub denotes : denoted text ≡ Ok script
   pub few : natives < accepts.image.header.natives
-  pub tells : Tells (faults.Boot TooFewNatives) errors
+  pub reports : ReportsFault (faults.Boot TooFewNatives) errors
 
 -- why an image is not run beside so many natives: it names more, or memory was wanting
 abbrev pub RefusesBoot : Image → (natives : ℕ) → Fault → Type 0
@@ -198,9 +198,9 @@ RefusesBoot p natives _ = ⊥
 
 -- of an accepted image: memory was wanting before anything went out, for a request that the script refuses or for the machine, or the output failed
 pub data RunBreaks (reads : Line → List ℕ) (bytes text : List ℕ) (limit natives : ℕ) (out errors : Sent) : Type 0 where
-  script_wants_memory : IsSilent out → Accepts bytes → (fault : ScriptFault) → WantsMemory text fault → Tells faults.Memory errors → RunBreaks reads bytes text limit natives out errors
-  machine_wants_memory : IsSilent out → (r : Runs bytes text limit natives) → HasNatives r.image natives → Tells faults.Memory errors → RunBreaks reads bytes text limit natives out errors
-  output_fails : (r : Runs bytes text limit natives) → HasNatives r.image natives → Cut reads r.image (outside_of r.script limit natives) out → Tells faults.Write errors → RunBreaks reads bytes text limit natives out errors
+  script_wants_memory : IsSilent out → Accepts bytes → (fault : ScriptFault) → WantsMemory text fault → ReportsFault faults.Memory errors → RunBreaks reads bytes text limit natives out errors
+  machine_wants_memory : IsSilent out → (r : RunsSafely bytes text limit natives) → HasNatives r.image natives → ReportsFault faults.Memory errors → RunBreaks reads bytes text limit natives out errors
+  output_fails : (r : RunsSafely bytes text limit natives) → HasNatives r.image natives → Cut reads r.image (outside_of r.script limit natives) out → ReportsFault faults.Write errors → RunBreaks reads bytes text limit natives out errors
 
 -- the run ended before it stopped: for nothing, or at the limit
 abbrev pub IsUnfinished : Ending → Type 0
@@ -216,7 +216,7 @@ IsBroken _ = ⊥
 
 -- the transcript of a run that ended so went out, and no other could have
 pub record Shown (reads : Line → List ℕ) (bytes text : List ℕ) (limit natives : ℕ) (ending : Ending) (out : Sent) : Type 0 where
-  pub runs : Runs bytes text limit natives
+  pub runs : RunsSafely bytes text limit natives
   pub enough : HasNatives runs.image natives
   pub transcribed : Transcribed reads runs.image (outside_of runs.script limit natives) ending out
   pub only : IsOnly reads runs.image (outside_of runs.script limit natives) ending out transcribed
@@ -249,7 +249,7 @@ pub record CheckBreaks (bytes : List ℕ) (out errors : Sent) : Type 0 where
   pub accepts : Accepts bytes
   pub failed : out.failed ≡ true
   pub says : Says accepted_text out
-  pub tells : Tells faults.Write errors
+  pub reports : ReportsFault faults.Write errors
 
 -- what each status says of a call of `check`
 abbrev pub CheckAnswers : List ℕ → Sent → Sent → ExitStatus → Type 0

@@ -7,4 +7,4 @@ pub mod Status
 pub mod Prices
 pub mod Drawn
 pub mod Translations
-pub mod Untold
+pub mod Unreported

@@ -1,34 +1,34 @@
 -- What `check --prices` promises of its sinks and its status, from bytes to bytes.
 use Rattle.std.specs.Prelude.{ℕ, ◌≡◌, ◌⊎◌, Bool, true, false, List, ◌++◌, Option, Some, None}
 use Rattle.aom_image.specs.Image.{Image}
-use Rattle.aom_classes.specs.Linked.{IsLinked}
-use Rattle.aom_rules.specs.Typing.{Typing, IsTyped}
-use Rattle.aom_typings.specs.Depths.{HasDepths}
-use Rattle.aom_typings.specs.Heights.{HasHeights}
+use Rattle.aom_link_conditions.specs.Linked.{IsLinked}
+use Rattle.aom_typing_rules.specs.Typing.{Typing, IsTyped}
+use Rattle.aom_static_bounds.specs.Depths.{HasDepths}
+use Rattle.aom_static_bounds.specs.Heights.{HasHeights}
 use Rattle.aom_budget.specs.Budgets.{BudgetsWithin}
 use Rattle.aom_budget.specs.Faults.{Refuses}
 use Rattle.aom_budget.specs.Figures.{Figures, AreFigures}
 use Rattle.aom_budget.specs.declared.fault.BudgetFault.{BudgetFault}
-use Rattle.aom_figures.specs.Names.{Names, unnamed}
-use Rattle.aom_figures.specs.Text.{figures_text}
+use Rattle.aom_cost_report.specs.Names.{Names, unnamed}
+use Rattle.aom_cost_report.specs.Text.{figures_text}
 use Rattle.aom_transcript.specs.Sinks.{after}
 use Rattle.aom_commands.specs.declared.status.ExitStatus.{ExitStatus}
 use Rattle.aom_commands.specs.declared.status.ExitStatus.TheVariants.{Done, ImageRefused, Fault as Faulty}
 use Rattle.aom_commands.specs.declared.faults.Fault.{Fault}
 use Rattle.aom_commands.specs.declared.faults.Fault.TheVariants.{Budget, Memory, Write}
-use Rattle.aom_commands.specs.Acceptable.{IsSpelled, IsAcceptable, RefusesOrWants}
-use Rattle.aom_commands.specs.Headline.{CheckAnswers, Sent, IsSilent, Says, Tells, ImageWantsMemory, IsRefused, accepted_text}
+use Rattle.aom_commands.specs.Acceptable.{IsSerialized, IsAcceptable, RefusesOrWants}
+use Rattle.aom_commands.specs.Headline.{CheckAnswers, Sent, IsSilent, Says, ReportsFault, ImageWantsMemory, IsRefused, accepted_text}
 
 -- the bytes are an image of which its budgets and its limits alone are left to look at, and the text tells its figures
 pub record IsFigured (names : Names) (bytes text : List ℕ) : Type 0 where
   pub image : Image
-  pub spelled : IsSpelled bytes image
+  pub serialized : IsSerialized bytes image
   pub linked : IsLinked image
   pub typing : Typing
   pub typed : IsTyped image typing
   pub figures : Figures
   pub are : AreFigures image figures
-  pub told : text ≡ figures_text names image figures
+  pub reported : text ≡ figures_text names image figures
 
 -- and it is an accepted one
 pub record IsWithin (names : Names) (bytes text : List ℕ) : Type 0 where
@@ -39,7 +39,7 @@ pub record IsWithin (names : Names) (bytes text : List ℕ) : Type 0 where
 pub record IsBeyond (names : Names) (bytes text : List ℕ) (fault : BudgetFault) : Type 0 where
   pub figured : IsFigured names bytes text
   pub refuses : Refuses figured.image fault
-  pub none : (p : Image) → IsSpelled bytes p → IsAcceptable p → ⊥
+  pub none : (p : Image) → IsSerialized bytes p → IsAcceptable p → ⊥
 
 -- what is written of it, by why it is refused, if it is
 abbrev pub IsWritten : Names → List ℕ → List ℕ → Option BudgetFault → Type 0
@@ -47,15 +47,15 @@ IsWritten names bytes written None = (text : List ℕ) × IsWithin names bytes t
 IsWritten names bytes written (Some fault) = IsBeyond names bytes written fault
 
 -- the text tells the image's figures
-pub record AreTold (names : Names) (p : Image) (text : List ℕ) : Type 0 where
+pub record AreReported (names : Names) (p : Image) (text : List ℕ) : Type 0 where
   pub figures : Figures
   pub are : AreFigures p figures
-  pub told : text ≡ figures_text names p figures
+  pub reported : text ≡ figures_text names p figures
 
 -- what is written of an image that is well-typed: its figures, behind the word of an accepted one where it keeps within all
 abbrev pub IsPriced : Names → Image → List ℕ → Option BudgetFault → Type 0
-IsPriced names p written None = (text : List ℕ) × AreTold names p text × BudgetsWithin p × HasDepths p × HasHeights p × (written ≡ accepted_text ++ text)
-IsPriced names p written (Some fault) = AreTold names p written × Refuses p fault
+IsPriced names p written None = (text : List ℕ) × AreReported names p text × BudgetsWithin p × HasDepths p × HasHeights p × (written ≡ accepted_text ++ text)
+IsPriced names p written (Some fault) = AreReported names p written × Refuses p fault
 
 -- the fault is none of budgets or limits
 abbrev pub IsEarly : Fault → Type 0
@@ -66,7 +66,7 @@ IsEarly _ = Unit {0}
 pub record StopsEarly (bytes : List ℕ) (fault : Fault) : Type 0 where
   pub refuses : RefusesOrWants bytes fault
   pub early : IsEarly fault
-  pub complete : (p : Image) → IsSpelled bytes p → IsAcceptable p → fault ≡ Memory
+  pub complete : (p : Image) → IsSerialized bytes p → IsAcceptable p → fault ≡ Memory
 
 -- the image is refused for its budgets or its limits, its figures went out, and the errors say why
 pub record IsOverBudget (names : Names) (bytes : List ℕ) (out errors : Sent) : Type 0 where
@@ -74,7 +74,7 @@ pub record IsOverBudget (names : Names) (bytes : List ℕ) (out errors : Sent) :
   pub fault : BudgetFault
   pub beyond : IsBeyond names bytes text fault
   pub shows : out.now ≡ after out.before text
-  pub tells : Tells (Budget fault) errors
+  pub reports : ReportsFault (Budget fault) errors
 
 -- the bytes are refused before budgets are looked at: nothing went out, and the errors say why
 pub record IsUnpriced (bytes : List ℕ) (out errors : Sent) : Type 0 where
@@ -83,8 +83,8 @@ pub record IsUnpriced (bytes : List ℕ) (out errors : Sent) : Type 0 where
 
 -- the output failed, at an accepted image or at the figures of a refused one
 pub data PricesBreaks (names : Names) (bytes : List ℕ) (out errors : Sent) : Type 0 where
-  accepted_fails : (text : List ℕ) → IsWithin names bytes text → out.failed ≡ true → Says (accepted_text ++ text) out → Tells Write errors → PricesBreaks names bytes out errors
-  refused_fails : (text : List ℕ) (fault : BudgetFault) → IsBeyond names bytes text fault → out.failed ≡ true → Says text out → Tells Write errors → PricesBreaks names bytes out errors
+  accepted_fails : (text : List ℕ) → IsWithin names bytes text → out.failed ≡ true → Says (accepted_text ++ text) out → ReportsFault Write errors → PricesBreaks names bytes out errors
+  refused_fails : (text : List ℕ) (fault : BudgetFault) → IsBeyond names bytes text fault → out.failed ≡ true → Says text out → ReportsFault Write errors → PricesBreaks names bytes out errors
 
 -- what each status says of a call of `check --prices` whose figures are told by these names
 abbrev pub PricesAnswersBy : Names → List ℕ → Sent → Sent → ExitStatus → Type 0
@@ -107,7 +107,7 @@ Checks = ChecksBy unnamed
 -- how a text goes out of which a fault is told, if there is one
 abbrev pub Passes : List ℕ → Option BudgetFault → ExitStatus → Sent → Sent → Type 0
 Passes text None status out errors = (status ≡ Done) × (out.now ≡ after out.before text) × IsSilent errors
-Passes text (Some fault) status out errors = (status ≡ ImageRefused) × (out.now ≡ after out.before text) × Tells (Budget fault) errors
+Passes text (Some fault) status out errors = (status ≡ ImageRefused) × (out.now ≡ after out.before text) × ReportsFault (Budget fault) errors
 
 abbrev pub Shown : List ℕ → Option BudgetFault → ExitStatus → Sent → Sent → Type 0
-Shown text refusal status out errors = Passes text refusal status out errors ⊎ ((status ≡ Faulty) × (out.failed ≡ true) × Says text out × Tells Write errors)
+Shown text refusal status out errors = Passes text refusal status out errors ⊎ ((status ≡ Faulty) × (out.failed ≡ true) × Says text out × ReportsFault Write errors)

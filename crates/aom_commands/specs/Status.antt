@@ -4,9 +4,9 @@ use Rattle.std.specs.Fmt.{decimal}
 use Rattle.aom_codec.specs.Faults.{fault_number}
 use Rattle.aom_codec.specs.declared.fault.LoadFault.{LoadFault}
 use Rattle.aom_codec.specs.declared.fault.LoadFault.TheVariants as loads
-use Rattle.aom_classes.specs.Faults.{number_of}
-use Rattle.aom_classes.specs.declared.fault.LinkFault.{LinkFault}
-use Rattle.aom_classes.specs.declared.fault.LinkFault.TheVariants as links
+use Rattle.aom_link_conditions.specs.Faults.{number_of}
+use Rattle.aom_link_conditions.specs.declared.fault.LinkFault.{LinkFault}
+use Rattle.aom_link_conditions.specs.declared.fault.LinkFault.TheVariants as links
 use Rattle.aom_verify.specs.Refusals.{line_of}
 use Rattle.aom_verify.specs.declared.refusal.Refusal.{Refusal}
 use Rattle.aom_verify.specs.declared.refusal.Refusal.TheVariants as refusals

@@ -8,7 +8,7 @@ use Rattle.aom_commands.specs.declared.faults.Fault.TheVariants as faults
 use Rattle.aom_commands.specs.declared.commands.Translation.{Translation}
 use Rattle.aom_commands.specs.declared.commands.Translation.TheVariants.{Asm, Dis, Dot}
 use Rattle.aom_commands.specs.Assembly.{IsFaulty, Lists, Makes, RefusesBytes, RefusesText}
-use Rattle.aom_figures.specs.Names.{Names}
+use Rattle.aom_cost_report.specs.Names.{Names}
 use Rattle.aom_commands.specs.Drawn.{IsDrawn, IsDrawnBy}
 use Rattle.aom_commands.specs.Headline.{ImageWantsMemory, RefusedFor, Sent, WriteFails, Writes}
 use Rattle.aom_commands.specs.Prices.{IsUnpriced, StopsEarly}

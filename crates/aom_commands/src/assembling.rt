@@ -5,7 +5,7 @@ ghost use Rattle.aom_commands.specs.Assembly.{Lists, Makes, RefusesBytes, Refuse
 use crate::Fault;
 use aom_asm::assemble;
 use aom_codec::{decode, encode};
-use aom_listing::disassemble;
+use aom_disassembler::disassemble;
 use std::alloc::Global;
 
 /// The bytes of the image that a text denotes, or the first fault of the text.

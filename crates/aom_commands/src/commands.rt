@@ -1,12 +1,12 @@
 //! The commands, over the bytes of files.
 ghost use Rattle.std.specs.Prelude.{ℕ, ◌≤◌, IfErr, IfOk, List, length};
 ghost use Rattle.aom_natives.specs.Owed.{OweNothing};
-ghost use Rattle.aom_commands.specs.Acceptable.{IsSpelled};
+ghost use Rattle.aom_commands.specs.Acceptable.{IsSerialized};
 ghost use Rattle.aom_transcript.specs.Naming.{named_by};
 ghost use Rattle.aom_commands.specs.Headline.{AcceptedAnswers, EndsOrFails, RunAnswers, RunAnswersBy, CheckAnswers, Sends};
 ghost use Rattle.aom_commands.specs.Prices.{Checks, ChecksBy, PricesAnswers};
 ghost use Rattle.aom_commands.specs.Translations.{DrawsBy, IsTranslation, RefusesFile, Translates};
-ghost use Rattle.aom_commands.specs.Untold.{Untold};
+ghost use Rattle.aom_commands.specs.Unreported.{Unreported};
 ghost use Rattle.aom_commands.specs.declared.commands.Translation.TheVariants.{Asm, Dis, Dot};
 
 use crate::accepting::accept_bytes;
@@ -17,7 +17,7 @@ use crate::pricing::try_prices;
 use crate::running::{run_accepted, runs_well};
 use crate::{ExitStatus, Fault};
 use aom_budget::Accepted;
-use aom_figures::Names;
+use aom_cost_report::Names;
 use aom_natives::Native;
 use aom_run::Outcome;
 use aom_script::read_script;
@@ -53,7 +53,7 @@ pub fn try_run<W: Sink>(
 ) -> Result<ExitStatus, Fault>
     requires limit { (1 ≤ limit) × (limit ≤ 1000000000) }
     requires owed { OweNothing (λ b. (⟦<dyn Native as Native>⟧ b.vtable).owed b.value) boxes.items }
-    ensures { Untold (RunAnswers image.now script.now limit (length boxes.items) (record { before = W.out out.old; now = W.out out.new; failed = W.failed out.new })) result }
+    ensures { Unreported (RunAnswers image.now script.now limit (length boxes.items) (record { before = W.out out.old; now = W.out out.new; failed = W.failed out.new })) result }
 {
     try_run_named(alloc, image, script, limit, boxes, None, out)
 }
@@ -71,7 +71,7 @@ pub fn try_run_named<W: Sink>(
 ) -> Result<ExitStatus, Fault>
     requires limit { (1 ≤ limit) × (limit ≤ 1000000000) }
     requires owed { OweNothing (λ b. (⟦<dyn Native as Native>⟧ b.vtable).owed b.value) boxes.items }
-    ensures { Untold (RunAnswersBy (named_by names.entry) image.now script.now limit (length boxes.items) (record { before = W.out out.old; now = W.out out.new; failed = W.failed out.new })) result }
+    ensures { Unreported (RunAnswersBy (named_by names.entry) image.now script.now limit (length boxes.items) (record { before = W.out out.old; now = W.out out.new; failed = W.failed out.new })) result }
 {
     match accept_bytes(alloc, image) {
         Ok(accepted) => {
@@ -95,7 +95,7 @@ fn run_text<W: Sink>(
 ) -> Result<ExitStatus, Fault>
     requires limit { (1 ≤ limit) × (limit ≤ 1000000000) }
     requires owed { OweNothing (λ b. (⟦<dyn Native as Native>⟧ b.vtable).owed b.value) boxes.items }
-    ensures { (bytes : List ℕ) → IsSpelled bytes accepted.now → Untold (AcceptedAnswers (named_by names.entry) bytes text.now limit (length boxes.items) (record { before = W.out out.old; now = W.out out.new; failed = W.failed out.new })) result }
+    ensures { (bytes : List ℕ) → IsSerialized bytes accepted.now → Unreported (AcceptedAnswers (named_by names.entry) bytes text.now limit (length boxes.items) (record { before = W.out out.old; now = W.out out.new; failed = W.failed out.new })) result }
 {
     accepted.facts();
     runs_well(accepted);
@@ -107,7 +107,7 @@ fn run_text<W: Sink>(
 
 /// The status of a run that ended so, or that its output has failed, or why it was not made.
 fn end(outcome: Result<Outcome, Fault>) -> Result<ExitStatus, Fault>
-    ensures { Untold (λ errors status. EndsOrFails outcome status errors) result }
+    ensures { Unreported (λ errors status. EndsOrFails outcome status errors) result }
 {
     match outcome? {
         Outcome::Stopped => Ok(ExitStatus::Done),
@@ -128,7 +128,7 @@ pub fn check_bytes<W: Sink, E: Sink>(
 ) -> ExitStatus
     ensures { CheckAnswers image.now (record { before = W.out out.old; now = W.out out.new; failed = W.failed out.new }) (record { before = E.out errors.old; now = E.out errors.new; failed = E.failed errors.new }) result }
 {
-    told(alloc, image, false, out, errors)
+    reported(alloc, image, false, out, errors)
 }
 
 /// Tells whether an image is accepted, with its figures. Those of one that its budgets or its limits alone refuse are told too.
@@ -140,11 +140,11 @@ pub fn prices_bytes<W: Sink, E: Sink>(
 ) -> ExitStatus
     ensures { PricesAnswers image.now (record { before = W.out out.old; now = W.out out.new; failed = W.failed out.new }) (record { before = E.out errors.old; now = E.out errors.new; failed = E.failed errors.new }) result }
 {
-    told(alloc, image, true, out, errors)
+    reported(alloc, image, true, out, errors)
 }
 
 /// Tells whether an image is accepted, with its figures where they are asked.
-fn told<W: Sink, E: Sink>(
+fn reported<W: Sink, E: Sink>(
     alloc: Global,
     image: &[u8],
     prices: bool,
@@ -163,7 +163,7 @@ pub fn try_check<W: Sink>(
     prices: bool,
     out: &mut W,
 ) -> Result<ExitStatus, Fault>
-    ensures { Untold (Checks prices image.now (record { before = W.out out.old; now = W.out out.new; failed = W.failed out.new })) result }
+    ensures { Unreported (Checks prices image.now (record { before = W.out out.old; now = W.out out.new; failed = W.failed out.new })) result }
 {
     try_check_named(alloc, image, &Names::none(), prices, out)
 }
@@ -176,7 +176,7 @@ pub fn try_check_named<W: Sink>(
     prices: bool,
     out: &mut W,
 ) -> Result<ExitStatus, Fault>
-    ensures { Untold (ChecksBy names.now prices image.now (record { before = W.out out.old; now = W.out out.new; failed = W.failed out.new })) result }
+    ensures { Unreported (ChecksBy names.now prices image.now (record { before = W.out out.old; now = W.out out.new; failed = W.failed out.new })) result }
 {
     if prices {
         return try_prices(alloc, image, names, out);
@@ -186,7 +186,7 @@ pub fn try_check_named<W: Sink>(
 
 /// Tells whether an image is accepted, and no more.
 fn try_verdict<W: Sink>(alloc: Global, image: &[u8], out: &mut W) -> Result<ExitStatus, Fault>
-    ensures { Untold (CheckAnswers image.now (record { before = W.out out.old; now = W.out out.new; failed = W.failed out.new })) result }
+    ensures { Unreported (CheckAnswers image.now (record { before = W.out out.old; now = W.out out.new; failed = W.failed out.new })) result }
 {
     match accept_bytes(alloc, image) {
         Ok(_accepted) => try_send(b"accepted\n", out),
@@ -261,7 +261,7 @@ pub fn try_translate<W: Sink>(
     file: &[u8],
     out: &mut W,
 ) -> Result<ExitStatus, Fault>
-    ensures { Untold (Translates to file.now (record { before = W.out out.old; now = W.out out.new; failed = W.failed out.new })) result }
+    ensures { Unreported (Translates to file.now (record { before = W.out out.old; now = W.out out.new; failed = W.failed out.new })) result }
 {
     match translated(alloc, to, file) {
         Ok(text) => try_send(&text, out),
@@ -276,7 +276,7 @@ pub fn try_draw<W: Sink>(
     names: &Names,
     out: &mut W,
 ) -> Result<ExitStatus, Fault>
-    ensures { Untold (DrawsBy names.now image.now (record { before = W.out out.old; now = W.out out.new; failed = W.failed out.new })) result }
+    ensures { Unreported (DrawsBy names.now image.now (record { before = W.out out.old; now = W.out out.new; failed = W.failed out.new })) result }
 {
     match draw_bytes(alloc, names, image) {
         Ok(graph) => try_send(&graph, out),
@@ -298,7 +298,7 @@ fn translated(alloc: Global, to: Translation, file: &[u8]) -> Result<Vec<u8>, Fa
 
 /// Writes a text to the output. That this fails is left to be told.
 fn try_send<W: Sink>(text: &[u8], out: &mut W) -> Result<ExitStatus, Fault>
-    ensures { Untold (λ errors status. Sends text.now status (record { before = W.out out.old; now = W.out out.new; failed = W.failed out.new }) errors) result }
+    ensures { Unreported (λ errors status. Sends text.now status (record { before = W.out out.old; now = W.out out.new; failed = W.failed out.new }) errors) result }
 {
     write_text(out, text);
     if out.has_failed() {

@@ -6,7 +6,7 @@ ghost use Rattle.aom_commands.specs.Prices.{StopsEarly};
 use crate::Fault;
 use crate::pricing::check_image;
 use aom_budget::Figures;
-use aom_figures::{Names, dot_text};
+use aom_cost_report::{Names, dot_text};
 use aom_verify::Checked;
 use std::alloc::{AllocError, Global};
 

@@ -5,23 +5,23 @@ ghost use Rattle.aom_run.specs.Calls.{natives_of};
 ghost use Rattle.aom_run.specs.Outcomes.{outcome_of};
 ghost use Rattle.aom_transcript.specs.Sinks.{after};
 ghost use Rattle.aom_script.specs.Script.{IsTimely, denoted};
-ghost use Rattle.aom_injection.specs.Injections.{CanInject, injected};
-ghost use Rattle.aom_injection.specs.Planned.{AreTimes};
-ghost use Rattle.aom_commands.specs.Acceptable.{IsSpelled};
+ghost use Rattle.aom_fault_injection.specs.Injections.{CanInject, injected};
+ghost use Rattle.aom_fault_injection.specs.Planned.{AreTimes};
+ghost use Rattle.aom_commands.specs.Acceptable.{IsSerialized};
 ghost use Rattle.aom_commands.specs.Beside.{AllNew, AreNew};
 ghost use Rattle.aom_commands.specs.Explored.{AcceptedExplores, Begun, BreaksOff, ExploreAnswers, Explored, HasPlain, IsLast, Plans, RefusesTry, Tried, TriesAll, closing, kept_text, tried_line};
 ghost use Rattle.aom_commands.specs.Headline.{HasNatives, IsFreshOf, RefusesBoot, Says, outside_of};
-ghost use Rattle.aom_commands.specs.Untold.{Untold};
+ghost use Rattle.aom_commands.specs.Unreported.{Unreported};
 
 use crate::accepting::accept_bytes;
+use crate::collecting_sink::CollectingSink;
 use crate::faults::answer;
-use crate::keeper::Keeper;
 use crate::running::{booted, line_buffer, runs_well};
-use crate::{ExitStatus, Fault, tell};
+use crate::{ExitStatus, Fault, report};
 use aom_budget::Accepted;
-use aom_injection::{Injection, Plan, Tally, Tries, times_of};
+use aom_fault_injection::{Injection, OutcomeCounts, Plan, Tries, times_of};
 use aom_natives::{Counter, Delay, Line, Native, NativeKind};
-use aom_run::{Machine, Outcome, run};
+use aom_run::{HostedMachine, Outcome, run};
 use aom_script::{Script, read_script};
 use aom_transcript::{Ending, Page, Sink, write_text};
 use std::alloc::{AllocError, Global};
@@ -68,8 +68,8 @@ struct Trial<'a> {
 fn last_booted(
     alloc: Global,
     trial: &Trial<'_>,
-    machine: &mut Machine,
-    kept: &mut Keeper,
+    machine: &mut HostedMachine,
+    kept: &mut CollectingSink,
 ) -> Result<RunEnd, Fault>
     requires limit { (1 ≤ trial.now.limit) × (trial.now.limit ≤ 1000000000) }
     requires timely { IsTimely trial.now.script.now.timed }
@@ -96,7 +96,7 @@ fn last_beside(
     alloc: Global,
     trial: &Trial<'_>,
     boxes: Vec<Box<dyn Native>>,
-    kept: &mut Keeper,
+    kept: &mut CollectingSink,
 ) -> Result<RunEnd, Fault>
     requires limit { (1 ≤ trial.now.limit) × (trial.now.limit ≤ 1000000000) }
     requires timely { IsTimely trial.now.script.now.timed }
@@ -112,7 +112,7 @@ fn last_beside(
 }
 
 /// Makes the natives of one run, and runs the image beside them to its end.
-fn last_of(alloc: Global, trial: &Trial<'_>, kept: &mut Keeper) -> Result<RunEnd, Fault>
+fn last_of(alloc: Global, trial: &Trial<'_>, kept: &mut CollectingSink) -> Result<RunEnd, Fault>
     requires limit { (1 ≤ trial.now.limit) × (trial.now.limit ≤ 1000000000) }
     requires timely { IsTimely trial.now.script.now.timed }
     ensures ok { IfOk result (λ last. (text : List ℕ) × IsLast trial.now.accepted.now (outside_of trial.now.script.now trial.now.limit (length trial.now.kinds.now)) last text × (kept_text kept.new.keeps kept.new.text.items ≡ after (kept_text kept.old.keeps kept.old.text.items) text)) }
@@ -139,7 +139,7 @@ fn plain_of(alloc: Global, trial: &Trial<'_>, marks: bool) -> Result<Plain, Faul
     ensures enough { IfOk result (λ _. HasNatives trial.now.accepted.now (length trial.now.kinds.now)) }
     ensures err { IfErr result (λ fault. RefusesTry trial.now.accepted.now (length trial.now.kinds.now) fault) }
 {
-    let mut kept = Keeper::new(alloc, marks);
+    let mut kept = CollectingSink::new(alloc, marks);
     let last = last_of(alloc, trial, &mut kept)?;
     let times = times_of(alloc, kept.text.as_slice())?;
     Ok(Plain {
@@ -186,7 +186,7 @@ fn last_injected(alloc: Global, trial: &Trial<'_>, injection: Injection) -> Resu
         limit: trial.limit,
         kinds: trial.kinds,
     };
-    last_of(alloc, &given, &mut Keeper::new(alloc, false))
+    last_of(alloc, &given, &mut CollectingSink::new(alloc, false))
 }
 
 /// The line of a try.
@@ -233,33 +233,38 @@ fn try_all<W: Sink>(
     trial: &Trial<'_>,
     injections: &[Injection],
     out: &mut W,
-) -> Result<Tally, Fault>
+) -> Result<OutcomeCounts, Fault>
     requires limit { (1 ≤ trial.now.limit) × (trial.now.limit ≤ 1000000000) }
     requires timely { IsTimely trial.now.script.now.timed }
     requires can { All CanInject injections.now }
     requires enough { HasNatives trial.now.accepted.now (length trial.now.kinds.now) }
-    ensures ok { IfOk result (λ tally. TriesAll trial.now.accepted.now trial.now.script.now trial.now.limit (length trial.now.kinds.now) injections.now tally (record { before = W.out out.old; now = W.out out.new; failed = W.failed out.new })) }
+    ensures ok { IfOk result (λ outcome_counts. TriesAll trial.now.accepted.now trial.now.script.now trial.now.limit (length trial.now.kinds.now) injections.now outcome_counts (record { before = W.out out.old; now = W.out out.new; failed = W.failed out.new })) }
     ensures err { IfErr result (λ fault. (fault ≡ Fault.Memory) × Begun trial.now.accepted.now trial.now.script.now trial.now.limit (length trial.now.kinds.now) injections.now (record { before = W.out out.old; now = W.out out.new; failed = W.failed out.new })) }
 {
-    let mut tally = Tally::new();
+    let mut outcome_counts = OutcomeCounts::new();
     let mut place = 0;
     while place < injections.len() && !out.has_failed() {
         let ending = try_one(alloc, trial, injections[place], out)?;
-        tally.count(ending);
+        outcome_counts.count(ending);
         place += 1;
     }
-    Ok(tally)
+    Ok(outcome_counts)
 }
 
 /// Writes the closing lines, where they are asked for, unless the sink has failed.
-fn close<W: Sink>(tries: Tries, tally: &Tally, left: Option<Injection>, out: &mut W)
-    ensures says { W.failed out.old ≡ false → Says (closing tries left tally.now) (record { before = W.out out.old; now = W.out out.new; failed = W.failed out.new }) }
+fn close<W: Sink>(
+    tries: Tries,
+    outcome_counts: &OutcomeCounts,
+    left: Option<Injection>,
+    out: &mut W,
+)
+    ensures says { W.failed out.old ≡ false → Says (closing tries left outcome_counts.now) (record { before = W.out out.old; now = W.out out.new; failed = W.failed out.new }) }
     ensures stays { W.failed out.old ≡ true → (W.out out.new ≡ W.out out.old) × (W.failed out.new ≡ true) }
 {
     if !tries.asks_more() || out.has_failed() {
         return;
     }
-    let closing = tally.closing(left);
+    let closing = outcome_counts.closing(left);
     write_text(out, closing.as_bytes());
 }
 
@@ -278,8 +283,8 @@ fn explore<W: Sink>(
     ensures err { IfErr result (λ fault. BreaksOff trial.now.accepted.now trial.now.script.now trial.now.limit (length trial.now.kinds.now) tries (record { before = W.out out.old; now = W.out out.new; failed = W.failed out.new }) fault) }
 {
     let plan = plan_of(alloc, trial, tries)?;
-    let tally = try_all(alloc, trial, plan.injections.as_slice(), out)?;
-    close(tries, &tally, plan.left, out);
+    let outcome_counts = try_all(alloc, trial, plan.injections.as_slice(), out)?;
+    close(tries, &outcome_counts, plan.left, out);
     Ok(())
 }
 
@@ -304,7 +309,7 @@ pub fn explore_bytes<W: Sink, E: Sink>(
             drop(accepted);
             answer(found, errors)
         }
-        Err(refusal) => tell(&refusal, errors),
+        Err(refusal) => report(&refusal, errors),
     }
 }
 
@@ -319,7 +324,7 @@ fn explore_text<W: Sink>(
     out: &mut W,
 ) -> Result<ExitStatus, Fault>
     requires limit { (1 ≤ limit) × (limit ≤ 1000000000) }
-    ensures { (bytes : List ℕ) → IsSpelled bytes accepted.now → Untold (AcceptedExplores bytes text.now limit (length kinds.now) tries (record { before = W.out out.old; now = W.out out.new; failed = W.failed out.new })) result }
+    ensures { (bytes : List ℕ) → IsSerialized bytes accepted.now → Unreported (AcceptedExplores bytes text.now limit (length kinds.now) tries (record { before = W.out out.old; now = W.out out.new; failed = W.failed out.new })) result }
 {
     accepted.facts();
     let script = match read_script(alloc, text) {
@@ -344,7 +349,7 @@ fn explore_script<W: Sink>(
 ) -> Result<ExitStatus, Fault>
     requires limit { (1 ≤ trial.now.limit) × (trial.now.limit ≤ 1000000000) }
     requires timely { IsTimely trial.now.script.now.timed }
-    ensures { (bytes text : List ℕ) → IsSpelled bytes trial.now.accepted.now → denoted text ≡ Ok trial.now.script.now → Untold (AcceptedExplores bytes text trial.now.limit (length trial.now.kinds.now) tries (record { before = W.out out.old; now = W.out out.new; failed = W.failed out.new })) result }
+    ensures { (bytes text : List ℕ) → IsSerialized bytes trial.now.accepted.now → denoted text ≡ Ok trial.now.script.now → Unreported (AcceptedExplores bytes text trial.now.limit (length trial.now.kinds.now) tries (record { before = W.out out.old; now = W.out out.new; failed = W.failed out.new })) result }
 {
     trial.accepted.facts();
     runs_well(trial.accepted);

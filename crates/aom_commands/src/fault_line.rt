@@ -2,11 +2,11 @@
 ghost use Rattle.std.specs.Prelude.{◌≡◌, ◌+◌, ◌≤◌, [], ◌++◌, length, decimal, codes};
 ghost use Rattle.aom_transcript.specs.Text.{ended};
 ghost use Rattle.aom_verify.specs.Refusals.{line_of};
-ghost use Rattle.aom_budget.specs.Faults.{line_of as budget_line, payer_text};
+ghost use Rattle.aom_budget.specs.Faults.{line_of as budget_line, budget_owner_text};
 ghost use Rattle.aom_commands.specs.Status.{fault_line};
 
 use crate::Fault;
-use aom_budget::{BudgetFault, Payer};
+use aom_budget::{BudgetFault, BudgetOwner};
 use aom_transcript::Text;
 use aom_verify::Refusal;
 
@@ -83,11 +83,11 @@ fn add_budget(line: &mut FaultLine, fault: &BudgetFault)
 {
     match *fault {
         BudgetFault::OverBudget {
-            payer,
+            budget_owner,
             price,
             declared,
         } => {
-            add_payer(line, payer);
+            add_budget_owner(line, budget_owner);
             line.add_count(b" price ", price);
             line.add_count(b" declared ", declared);
         }
@@ -98,15 +98,15 @@ fn add_budget(line: &mut FaultLine, fault: &BudgetFault)
 }
 
 /// Adds whose budget it is.
-fn add_payer(line: &mut FaultLine, payer: Payer)
+fn add_budget_owner(line: &mut FaultLine, budget_owner: BudgetOwner)
     requires { line.old ≡ [] }
-    ensures text { line.new ≡ codes "budget 1 " ++ payer_text payer }
+    ensures text { line.new ≡ codes "budget 1 " ++ budget_owner_text budget_owner }
     ensures short { length line.new ≤ 35 }
 {
     line.add(b"budget 1 ");
-    match payer {
-        Payer::Main => line.add(b"main"),
-        Payer::Class(class) => {
+    match budget_owner {
+        BudgetOwner::Main => line.add(b"main"),
+        BudgetOwner::Class(class) => {
             line.add_count(b"class ", class.number());
         }
     }

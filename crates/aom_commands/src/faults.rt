@@ -1,14 +1,14 @@
 //! What a call is refused for, and how that is told.
 ghost use Rattle.std.specs.Prelude.{◌≡◌};
 ghost use Rattle.aom_commands.specs.Status.{status_of};
-ghost use Rattle.aom_commands.specs.Headline.{Told};
-ghost use Rattle.aom_commands.specs.Untold.{Answered};
+ghost use Rattle.aom_commands.specs.Headline.{Reported};
+ghost use Rattle.aom_commands.specs.Unreported.{Answered};
 
 use crate::ExitStatus;
 use crate::fault_line::fault_line;
 use aom_budget::BudgetFault;
-use aom_classes::LinkFault;
 use aom_codec::LoadFault;
+use aom_link_conditions::LinkFault;
 use aom_natives::BootFault;
 use aom_script::{ScriptFault, ScriptFaultKind};
 use aom_text::{AsmFault, AsmFaultKind};
@@ -188,13 +188,13 @@ pub fn answer<E: Sink>(found: Result<ExitStatus, Fault>, errors: &mut E) -> Exit
 {
     match found {
         Ok(status) => status,
-        Err(fault) => tell(&fault, errors),
+        Err(fault) => report(&fault, errors),
     }
 }
 
 /// Writes a fault's line, and answers its status.
-pub fn tell<E: Sink>(fault: &Fault, errors: &mut E) -> ExitStatus
-    ensures { Told fault.now result (record { before = E.out errors.old; now = E.out errors.new; failed = E.failed errors.new }) }
+pub fn report<E: Sink>(fault: &Fault, errors: &mut E) -> ExitStatus
+    ensures { Reported fault.now result (record { before = E.out errors.old; now = E.out errors.new; failed = E.failed errors.new }) }
 {
     let line = fault_line(fault);
     write_text(errors, line.as_bytes());

@@ -10,12 +10,12 @@
 
 mod accepting;
 mod assembling;
+mod collecting_sink;
 mod commands;
 mod drawing;
 mod exploring;
 mod fault_line;
 mod faults;
-mod keeper;
 mod pricing;
 mod running;
 mod status;
@@ -28,6 +28,6 @@ pub use commands::{
 };
 pub use exploring::explore_bytes;
 pub use fault_line::{FaultLine, fault_text};
-pub use faults::{Fault, answer, tell};
+pub use faults::{Fault, answer, report};
 pub use running::line_buffer;
 pub use status::ExitStatus;

@@ -1,18 +1,18 @@
 //! The figures of an image that has been checked, accepted or not.
 ghost use Rattle.std.specs.Prelude.{◌≡◌, ◌++◌, None, IfOk, IfErr};
 ghost use Rattle.aom_image.specs.Image.{Image};
-ghost use Rattle.aom_classes.specs.Linked.{IsLinked};
-ghost use Rattle.aom_rules.specs.Typing.{IsTyped, Typing};
+ghost use Rattle.aom_link_conditions.specs.Linked.{IsLinked};
+ghost use Rattle.aom_typing_rules.specs.Typing.{IsTyped, Typing};
 ghost use Rattle.aom_budget.specs.Figures.{AreFigures};
-ghost use Rattle.aom_commands.specs.Acceptable.{IsSpelled};
+ghost use Rattle.aom_commands.specs.Acceptable.{IsSerialized};
 ghost use Rattle.aom_commands.specs.Headline.{accepted_text};
 ghost use Rattle.aom_commands.specs.Prices.{IsPriced, IsWritten, PricesAnswersBy, Shown, StopsEarly};
-ghost use Rattle.aom_commands.specs.Untold.{Untold};
+ghost use Rattle.aom_commands.specs.Unreported.{Unreported};
 
 use crate::accepting::link_bytes;
 use crate::{ExitStatus, Fault};
 use aom_budget::{BudgetFault, Figures};
-use aom_figures::{Names, figures_text};
+use aom_cost_report::{Names, figures_text};
 use aom_transcript::{Sink, write_text};
 use aom_verify::{Checked, check};
 use std::alloc::{AllocError, Global};
@@ -31,7 +31,7 @@ pub(crate) fn try_prices<W: Sink>(
     names: &Names,
     out: &mut W,
 ) -> Result<ExitStatus, Fault>
-    ensures { Untold (PricesAnswersBy names.now image.now (record { before = W.out out.old; now = W.out out.new; failed = W.failed out.new })) result }
+    ensures { Unreported (PricesAnswersBy names.now image.now (record { before = W.out out.old; now = W.out out.new; failed = W.failed out.new })) result }
 {
     match price_bytes(alloc, names, image) {
         Ok(priced) => show(&priced, out),
@@ -41,7 +41,7 @@ pub(crate) fn try_prices<W: Sink>(
 
 /// Writes what is written. Why the image is refused, if it is, is left to be told, and before it a failure of the output.
 fn show<W: Sink>(priced: &Priced, out: &mut W) -> Result<ExitStatus, Fault>
-    ensures { Untold (λ errors status. Shown priced.now.text.items priced.now.refusal status (record { before = W.out out.old; now = W.out out.new; failed = W.failed out.new }) errors) result }
+    ensures { Unreported (λ errors status. Shown priced.now.text.items priced.now.refusal status (record { before = W.out out.old; now = W.out out.new; failed = W.failed out.new }) errors) result }
 {
     write_text(out, &priced.text);
     if out.has_failed() {
@@ -106,10 +106,10 @@ fn accepted_beside(alloc: Global, figures: &[u8]) -> Result<Priced, AllocError>
 
 /// The checked image that the bytes are, or the first fault on the way.
 pub(crate) fn check_image(alloc: Global, bytes: &[u8]) -> Result<Checked, Fault>
-    ensures ok { IfOk result (λ checked. IsSpelled bytes.now checked × IsLinked checked) }
+    ensures ok { IfOk result (λ checked. IsSerialized bytes.now checked × IsLinked checked) }
     ensures typed { IfOk result (λ checked. (t : Typing) × IsTyped checked t) }
     ensures err { IfErr result (λ fault. StopsEarly bytes.now fault) }
-    ensures only { (p : Image) → IsSpelled bytes.now p → IfOk result (λ checked. checked ≡ p) }
+    ensures only { (p : Image) → IsSerialized bytes.now p → IfOk result (λ checked. checked ≡ p) }
 {
     let linked = link_bytes(alloc, bytes)?;
     let checked = check(alloc, linked)?;

@@ -13,7 +13,7 @@ use crate::Fault;
 use aom_budget::Accepted;
 use aom_machine_state::LineBuffer;
 use aom_natives::Native;
-use aom_run::{Machine, Outcome, run_named};
+use aom_run::{HostedMachine, Outcome, run_named};
 use aom_script::Script;
 use aom_transcript::Sink;
 use std::alloc::{AllocError, Global};
@@ -23,7 +23,7 @@ pub fn booted<'a>(
     alloc: Global,
     accepted: &'a Accepted,
     boxes: Vec<Box<dyn Native>>,
-) -> Result<Machine<'a>, Fault>
+) -> Result<HostedMachine<'a>, Fault>
     requires owed { OweNothing (λ b. (⟦<dyn Native as Native>⟧ b.vtable).owed b.value) boxes.items }
     ensures fresh { IfOk result (λ m. IsFreshOf accepted.now m) }
     ensures agree { IfOk result (λ m. AllAgree (λ l. l.ids) (λ l. (⟦<dyn Native as Native>⟧ l.native.vtable).owed l.native.value) m.natives.slots.items) }
@@ -32,7 +32,7 @@ pub fn booted<'a>(
     ensures enough { IfOk result (λ _. HasNatives accepted.now (length boxes.items)) }
     ensures err { IfErr result (λ fault. RefusesBoot accepted.now (length boxes.items) fault) }
 {
-    match Machine::boot(alloc, accepted, boxes) {
+    match HostedMachine::boot(alloc, accepted, boxes) {
         Ok(machine) => Ok(machine),
         Err((fault, _boxes)) => Err(Fault::from(fault)),
     }
@@ -56,7 +56,7 @@ pub fn line_buffer(
 fn run_booted<W: Sink>(
     alloc: Global,
     accepted: &Accepted,
-    machine: &mut Machine,
+    machine: &mut HostedMachine,
     script: &Script,
     limit: u32,
     names: Option<&[&[u8]]>,
@@ -102,7 +102,7 @@ pub fn runs_well(accepted: &Accepted)
 {
     accepted.facts();
     aom_safety::linked_is_wired();
-    aom_progress::typed_runs_well();
-    aom_progress::steps_within();
+    aom_termination::typed_runs_well();
+    aom_termination::steps_within();
     aom_determinism::text_is_determined();
 }

@@ -4,27 +4,27 @@ use Rattle.std.proofs.Common.{Result, Ok, Err, arith, ap, codes, cond, inl, inr,
 use Rattle.std.specs.Prelude.{IfErr, IfOk}
 use Rattle.std.proofs.lemmas.Bool.Decides.{nat_tests}
 use Rattle.std.specs.Str.{bytes_eq}
-use Rattle.aom_debug_words.specs.Commands.{command_said, known, line_says, words_say}
-use Rattle.aom_debug_words.specs.declared.command.Command.{Command}
-use Rattle.aom_debug_words.specs.declared.command.Command.TheVariants.{Step, Next, Finish, Turn, Go, Until, Break, Unbreak}
-use Rattle.aom_debug_words.specs.declared.fault.DebugFault.{DebugFault}
-use Rattle.aom_debug_words.specs.declared.fault.DebugFault.TheVariants.{BadCommand, Ended, NoSuch}
-use Rattle.aom_debug_words.specs.declared.fault.DebugFault.TheVariants as faults
-use Rattle.aom_debug_words.specs.declared.spot.Spot.{Spot}
-use Rattle.aom_debug_words.specs.Marks.{has_spot, is_set, with_spot}
+use Rattle.aom_debug_protocol.specs.Commands.{command_said, known, line_says, words_say}
+use Rattle.aom_debug_protocol.specs.declared.command.Command.{Command}
+use Rattle.aom_debug_protocol.specs.declared.command.Command.TheVariants.{Step, Next, Finish, Turn, Go, Until, Break, Unbreak}
+use Rattle.aom_debug_protocol.specs.declared.fault.DebugFault.{DebugFault}
+use Rattle.aom_debug_protocol.specs.declared.fault.DebugFault.TheVariants.{BadCommand, Ended, NoSuch}
+use Rattle.aom_debug_protocol.specs.declared.fault.DebugFault.TheVariants as faults
+use Rattle.aom_debug_protocol.specs.declared.spot.CodeLocation.{CodeLocation}
+use Rattle.aom_debug_protocol.specs.Marks.{has_spot, is_set, with_spot}
 use Rattle.aom_machine_state.specs.Progress.{progress_by}
 use Rattle.aom_machine_state.specs.declared.progress.Progress.TheVariants as progress
 use Rattle.aom_text.specs.Words.{words}
 use Rattle.aom_text.specs.Numbers.{number_of, number_within}
 use Rattle.aom_text.specs.declared.number.Number.{Number}
 use Rattle.aom_transcript.specs.declared.line.Ending.{Ending}
-use Rattle.aom_debug_names.specs.Names.{Names, method_named}
-use Rattle.aom_debug_names.specs.Lines.{spot_in}
-use Rattle.aom_debug_names.specs.Commands.{command_by, has_text, is_mark, mark_at, mark_in, mark_named, mark_numbered}
-use Rattle.aom_debug_names.specs.Commands.{mark_said, mark_there, marked, numbered, or_named}
+use Rattle.aom_debug_symbols.specs.NameLists.{NameLists, method_named}
+use Rattle.aom_debug_symbols.specs.Lines.{spot_in}
+use Rattle.aom_debug_symbols.specs.Commands.{command_by, has_text, is_mark, mark_at, mark_in, mark_named, mark_numbered}
+use Rattle.aom_debug_symbols.specs.Commands.{mark_said, mark_there, marked, numbered, or_named}
 use Rattle.aom_debug.specs.Commands.{is_count, spot_named}
-use Rattle.aom_debug.specs.Debugging.{Answer, CountsNot, Declined, FindsNone, Goes, GoesNamed, Marks, MarksAt, Outgoing, Untils, steps_of}
-use Rattle.aom_debug.specs.Obeying.{Heeds, Obeys, Passes}
+use Rattle.aom_debug.specs.Debugging.{Answer, CountsNot, Declined, FindsNone, Goes, GoesNamed, Marks, MarksAt, Outgoing, UntilCommands, steps_of}
+use Rattle.aom_debug.specs.Executing.{ExecutesLine, Executes, Passes}
 use Rattle.aom_debug.specs.declared.debugger.Debugger.{Debugger}
 
 -- ---- what holds of each value, or of each error
@@ -48,24 +48,24 @@ counts n so other some few holds = rw (counted n some few) holds
 
 -- ---- breakpoints
 
-unset : (known room : Bool) (more spots : List Spot) → (known || room) ≡ false → cond known spots (cond room more spots) ≡ spots
-unset false false more spots is = refl
-unset _ _ more spots is = cc
+clear_breakpoint : (known room : Bool) (more spots : List CodeLocation) → (known || room) ≡ false → cond known spots (cond room more spots) ≡ spots
+clear_breakpoint false false more spots is = refl
+clear_breakpoint _ _ more spots is = cc
 
 -- where one cannot be set they stay
-pub set_not : (spot : Spot) (spots : List Spot) → is_set spot spots ≡ false → with_spot spot spots ≡ spots
-set_not spot spots is = unset (has_spot spot spots) (nat_lt (length spots) 16) (spots ++ spot ∷ []) spots is
+pub set_not : (spot : CodeLocation) (spots : List CodeLocation) → is_set spot spots ≡ false → with_spot spot spots ≡ spots
+set_not spot spots is = clear_breakpoint (has_spot spot spots) (nat_lt (length spots) 16) (spots ++ spot ∷ []) spots is
 
-module _ {X : Type 0} {B : X → Type 0} (may : Spot → List Spot → Bool) (marked : Spot → List Spot → List Spot) (spot : Spot)
+module _ {X : Type 0} {B : X → Type 0} (may : CodeLocation → List CodeLocation → Bool) (marked : CodeLocation → List CodeLocation → List CodeLocation) (spot : CodeLocation)
     (old new : Debugger X B) (out : Outgoing) where
-  pub marked_mover : (answer : Answer) → MarksAt may marked spot old new out answer → new.mover ≡ old.mover
-  marked_mover (Ok done) marks = ap (λ (d : Debugger X B). d.mover) marks.1
-  marked_mover (Err faults.NoSuch) marks = ap (λ (d : Debugger X B). d.mover) marks.1.same
-  marked_mover (Err faults.WriteFault) marks = ap (λ (d : Debugger X B). d.mover) marks.1
-  marked_mover (Err _) marks = absurd marks
+  pub marked_runner : (answer : Answer) → MarksAt may marked spot old new out answer → new.runner ≡ old.runner
+  marked_runner (Ok done) marks = ap (λ (d : Debugger X B). d.runner) marks.1
+  marked_runner (Err faults.NoSuch) marks = ap (λ (d : Debugger X B). d.runner) marks.1.same
+  marked_runner (Err faults.WriteFault) marks = ap (λ (d : Debugger X B). d.runner) marks.1
+  marked_runner (Err _) marks = absurd marks
 
   -- one that two numbers name
-  pub marked_named : (method place : Number) → old.has_failed ≡ false → spot_named old.mover.machine.core.image method place ≡ Some spot →
+  pub marked_named : (method place : Number) → old.has_failed ≡ false → spot_named old.runner.machine.core.image method place ≡ Some spot →
       (answer : Answer) → MarksAt may marked spot old new out answer → Marks may marked method place old new out answer
   marked_named method place well names (Ok done) marks = (well, spot, record { names = names; room = marks.0 }, marks.1, marks.2)
   marked_named method place well names (Err faults.NoSuch) marks = (well, inr (spot, names, marks.0), marks.1)
@@ -83,10 +83,10 @@ ended_by None (task ∷ tasks) ending is = cc
 
 module _ {X : Type 0} {B : X → Type 0} where
   -- what is kept of what was told does not move
-  pub kept_mover : (old new : Debugger X B) (told : Result (Unit {0}) DebugFault) → IfOk told (λ _. new ≡ old) →
-      IfErr told (λ _. new ≡ record old { has_failed = true }) → new.mover ≡ old.mover
-  kept_mover old new (Ok done) same changed = ap (λ (d : Debugger X B). d.mover) same
-  kept_mover old new (Err fault) same changed = ap (λ (d : Debugger X B). d.mover) changed
+  pub kept_runner : (old new : Debugger X B) (reported : Result (Unit {0}) DebugFault) → IfOk reported (λ _. new ≡ old) →
+      IfErr reported (λ _. new ≡ record old { has_failed = true }) → new.runner ≡ old.runner
+  kept_runner old new (Ok done) same changed = ap (λ (d : Debugger X B). d.runner) same
+  kept_runner old new (Err fault) same changed = ap (λ (d : Debugger X B). d.runner) changed
 
   module _ (d : Debugger X B) (out : Option (List ℕ)) (failed : Bool) where
     -- nothing goes out
@@ -96,44 +96,44 @@ module _ {X : Type 0} {B : X → Type 0} where
     declined : Declined d d still
     declined = record { same = refl; silent = refl }
 
-    module _ (ill : d.has_failed ≡ true) where
+    module _ (has_write_failed : d.has_failed ≡ true) where
       either : (b : Bool) (n : ℕ) → cond b (Goes (steps_of n) d d still (Err Ended)) (CountsNot d d still (Err Ended))
-      either true n = (inl ill, declined)
-      either false n = (ill, declined)
+      either true n = (inl has_write_failed, declined)
+      either false n = (has_write_failed, declined)
 
-      named_either : (o : Option Spot) → GoesNamed o d d still (Err Ended)
-      named_either None = (ill, declined)
-      named_either (Some spot) = (inl ill, declined)
+      named_either : (o : Option CodeLocation) → GoesNamed o d d still (Err Ended)
+      named_either None = (has_write_failed, declined)
+      named_either (Some spot) = (inl has_write_failed, declined)
 
-      obeys_failed : (command : Command) → Obeys command d d still (Err Ended)
-      obeys_failed (Step n) = either (is_count n) n
-      obeys_failed Next = (inl ill, declined)
-      obeys_failed Finish = (inl ill, declined)
-      obeys_failed Turn = (inl ill, declined)
-      obeys_failed Go = (inl ill, declined)
-      obeys_failed (Until method place) = named_either (spot_named d.mover.machine.core.image method place)
-      obeys_failed (Break method place) = (ill, declined)
-      obeys_failed (Unbreak method place) = (ill, declined)
-      obeys_failed _ = (ill, declined)
+      executes_failed : (command : Command) → Executes command d d still (Err Ended)
+      executes_failed (Step n) = either (is_count n) n
+      executes_failed Next = (inl has_write_failed, declined)
+      executes_failed Finish = (inl has_write_failed, declined)
+      executes_failed Turn = (inl has_write_failed, declined)
+      executes_failed Go = (inl has_write_failed, declined)
+      executes_failed (Until method place) = named_either (spot_named d.runner.machine.core.image method place)
+      executes_failed (Break method place) = (has_write_failed, declined)
+      executes_failed (Unbreak method place) = (has_write_failed, declined)
+      executes_failed _ = (has_write_failed, declined)
 
-      pub heeds_failed : (said : Result (Option Command) DebugFault) → Heeds said d d still (Err Ended)
-      heeds_failed (Err fault) = (ill, declined)
-      heeds_failed (Ok None) = (ill, declined)
-      heeds_failed (Ok (Some command)) = obeys_failed command
+      pub executes_line_failed : (said : Result (Option Command) DebugFault) → ExecutesLine said d d still (Err Ended)
+      executes_line_failed (Err fault) = (has_write_failed, declined)
+      executes_line_failed (Ok None) = (has_write_failed, declined)
+      executes_line_failed (Ok (Some command)) = executes_failed command
 
     -- where the numbers name nothing
     module _ (method place : Number) where
-      pub marks_none : (may : Spot → List Spot → Bool) (marked : Spot → List Spot → List Spot) (fault : DebugFault) →
-          FindsNone (spot_named d.mover.machine.core.image method place ≡ None) d fault → Marks may marked method place d d still (Err fault)
+      pub marks_none : (may : CodeLocation → List CodeLocation → Bool) (marked : CodeLocation → List CodeLocation → List CodeLocation) (fault : DebugFault) →
+          FindsNone (spot_named d.runner.machine.core.image method place ≡ None) d fault → Marks may marked method place d d still (Err fault)
       marks_none may marked NoSuch none = (none.0, inl none.1, declined)
-      marks_none may marked Ended ill = (ill, declined)
+      marks_none may marked Ended has_write_failed = (has_write_failed, declined)
       marks_none may marked _ none = absurd none
 
-      pub untils_none : (fault : DebugFault) → FindsNone (spot_named d.mover.machine.core.image method place ≡ None) d fault →
-          Untils method place d d still (Err fault)
-      untils_none NoSuch none = subst (λ o. GoesNamed o d d still (Err NoSuch)) (sym none.1) (none.0, declined)
-      untils_none Ended ill = named_either ill (spot_named d.mover.machine.core.image method place)
-      untils_none _ none = absurd none
+      pub no_untils : (fault : DebugFault) → FindsNone (spot_named d.runner.machine.core.image method place ≡ None) d fault →
+          UntilCommands method place d d still (Err fault)
+      no_untils NoSuch none = subst (λ o. GoesNamed o d d still (Err NoSuch)) (sym none.1) (none.0, declined)
+      no_untils Ended has_write_failed = named_either has_write_failed (spot_named d.runner.machine.core.image method place)
+      no_untils _ none = absurd none
 
   pub passes_on : (d : Debugger X B) (out : Option (List ℕ)) (failed : Bool) → d.has_failed ≡ false →
       (fault : DebugFault) → (fault ≡ Ended → ⊥) → Passes (Err fault) d d (record { before = out; now = out; failed = failed }) (Err fault)
@@ -161,15 +161,15 @@ mark_no_end : (o : Option Command) → marked o ≡ Err Ended → ⊥
 mark_no_end None e = cc
 mark_no_end (Some command) e = cc
 
-there_no_end : (verb : List ℕ) (spot : Option Spot) → mark_there verb spot ≡ Err Ended → ⊥
+there_no_end : (verb : List ℕ) (spot : Option CodeLocation) → mark_there verb spot ≡ Err Ended → ⊥
 there_no_end verb None e = cc
 there_no_end verb (Some spot) e = mark_no_end (mark_at verb (numbered spot.method) (numbered spot.place)) e
 
-in_no_end : (ns : Names) (verb : List ℕ) (line : Option ℕ) → mark_in ns verb line ≡ Err Ended → ⊥
+in_no_end : (ns : NameLists) (verb : List ℕ) (line : Option ℕ) → mark_in ns verb line ≡ Err Ended → ⊥
 in_no_end ns verb None e = cc
 in_no_end ns verb (Some line) e = there_no_end verb (spot_in ns.text line) e
 
-named_no_end : (ns : Names) (verb name : List ℕ) (method : Option ℕ) (number : Number) → mark_named ns verb name method number ≡ Err Ended → ⊥
+named_no_end : (ns : NameLists) (verb name : List ℕ) (method : Option ℕ) (number : Number) → mark_named ns verb name method number ≡ Err Ended → ⊥
 named_no_end ns verb name (Some method) number e = mark_no_end (mark_at verb (numbered method) number) e
 named_no_end ns verb name None number e = go (bytes_eq name (codes "line")) e
   where
@@ -177,11 +177,11 @@ named_no_end ns verb name None number e = go (bytes_eq name (codes "line")) e
     go true x = in_no_end ns verb (number_within 1 1048576 number) x
     go false x = cc
 
-numbered_no_end : (ns : Names) (verb name : List ℕ) (number : Option Number) → mark_numbered ns verb name number ≡ Err Ended → ⊥
+numbered_no_end : (ns : NameLists) (verb name : List ℕ) (number : Option Number) → mark_numbered ns verb name number ≡ Err Ended → ⊥
 numbered_no_end ns verb name None e = cc
 numbered_no_end ns verb name (Some number) e = named_no_end ns verb name (method_named ns name) number e
 
-place_no_end : (ns : Names) (ws : List (List ℕ)) → mark_said ns ws ≡ Err Ended → ⊥
+place_no_end : (ns : NameLists) (ws : List (List ℕ)) → mark_said ns ws ≡ Err Ended → ⊥
 place_no_end ns [] e = cc
 place_no_end ns (verb ∷ []) e = cc
 place_no_end ns (verb ∷ name ∷ []) e = cc
@@ -192,7 +192,7 @@ place_no_end ns (verb ∷ name ∷ number ∷ []) e = go (is_mark verb) e
     go false x = cc
 place_no_end ns (verb ∷ name ∷ number ∷ w ∷ ws) e = cc
 
-or_no_end : (ns : Names) (line : List ℕ) (said : Result (Option Command) DebugFault) → (said ≡ Err Ended → ⊥) → or_named ns line said ≡ Err Ended → ⊥
+or_no_end : (ns : NameLists) (line : List ℕ) (said : Result (Option Command) DebugFault) → (said ≡ Err Ended → ⊥) → or_named ns line said ≡ Err Ended → ⊥
 or_no_end ns line (Ok command) not e = cc
 or_no_end ns line (Err fault) not e = go (nat_lt 256 (length line)) (has_text ns) e
   where
@@ -201,5 +201,5 @@ or_no_end ns line (Err fault) not e = go (nat_lt 256 (length line)) (has_text ns
     go false true x = place_no_end ns (words line) x
     go false false x = not x
 
-pub says_no_end : (ns : Names) (line : List ℕ) → command_by ns line ≡ Err Ended → ⊥
+pub says_no_end : (ns : NameLists) (line : List ℕ) → command_by ns line ≡ Err Ended → ⊥
 says_no_end ns line is = or_no_end ns line (command_said line) (said_no_end line) is

@@ -1,7 +1,7 @@
 mod Lines
-mod Obeying
-mod Heeding
-mod Talking
+mod Executing
+mod ExecutingLines
+mod SessionInvariants
 mod Reading
 mod Statuses
 mod Starting
@@ -12,8 +12,8 @@ mod Answering
 mod Reached
 mod ReadBack
 pub use Rattle.aom_commands.proofs.CommandsLemmas
-pub use Rattle.aom_debug_moves.proofs.DebugMovesLemmas
+pub use Rattle.aom_debug_stepping.proofs.DebugSteppingLemmas
 pub use Rattle.aom_debug_paths.proofs.DebugPathsLemmas
-pub use Rattle.aom_debug_words.proofs.DebugWordsLemmas
-pub use Rattle.aom_meaning.proofs.MeaningLemmas
+pub use Rattle.aom_debug_protocol.proofs.DebugProtocolLemmas
+pub use Rattle.aom_asm_semantics.proofs.AsmSemanticsLemmas
 pub use Rattle.aom_script.proofs.ScriptLemmas

@@ -7,26 +7,26 @@ use Rattle.aom_script.specs.declared.fault.ScriptFault.{ScriptFault}
 use Rattle.aom_commands.specs.declared.status.ExitStatus.{ExitStatus}
 use Rattle.aom_commands.specs.declared.status.ExitStatus.TheVariants.{Done, ImageRefused, CallRefused, Fault as Faulty}
 use Rattle.aom_commands.specs.declared.faults.Fault.TheVariants as faults
-use Rattle.aom_commands.specs.Acceptable.{IsAcceptable, IsSpelled}
-use Rattle.aom_commands.specs.Headline.{Accepts, HasNatives, ImageWantsMemory, IsNoScript, IsRefused, IsSilent, Sent, Tells, WantsNatives, outside_of}
-use Rattle.aom_debug_names.specs.Names.{Names, unnamed}
-use Rattle.aom_debug.specs.Conversing.{Broken, Given, Gives, GivesAll, GivesNoEnd, Held, IsUnread, Stopped}
+use Rattle.aom_commands.specs.Acceptable.{IsAcceptable, IsSerialized}
+use Rattle.aom_commands.specs.Headline.{Accepts, HasNatives, ImageWantsMemory, IsNoScript, IsRefused, IsSilent, Sent, ReportsFault, WantsNatives, outside_of}
+use Rattle.aom_debug_symbols.specs.NameLists.{NameLists, unnamed}
+use Rattle.aom_debug.specs.SessionLoop.{Broken, Given, Gives, GivesAll, GivesNoEnd, Held, IsUnread, Stopped}
 use Rattle.aom_debug.specs.Sessions.{SessionState}
 
 -- the bytes are an accepted image, the text is a script, and there are as many natives as the image names
 pub record Debugs (bytes text : List ℕ) (limit natives : ℕ) : Type 0 where
   pub image : Image
-  pub spelled : IsSpelled bytes image
+  pub serialized : IsSerialized bytes image
   pub acceptable : IsAcceptable image
   pub script : Script
   pub denotes : denoted text ≡ Ok script
   pub enough : HasNatives image natives
 
 -- a session begins at the boot state, with no breakpoint, and no instruction was made; it tells by these names
-abbrev pub start_of : Names → Image → SessionState
+abbrev pub start_of : NameLists → Image → SessionState
 start_of ns p = record { state = boot_state p; spots = []; recent = []; names = ns }
 
-module _ (ns : Names) {bytes text : List ℕ} {limit natives : ℕ} (d : Debugs bytes text limit natives) where
+module _ (ns : NameLists) {bytes text : List ℕ} {limit natives : ℕ} (d : Debugs bytes text limit natives) where
   abbrev around : Environment
   around = outside_of d.script limit natives
 
@@ -43,14 +43,14 @@ module _ (ns : Names) {bytes text : List ℕ} {limit natives : ℕ} (d : Debugs 
   BreaksAt given out = (said : List ℕ) × Gives said given × Broken d.image around (start_of ns d.image) said out.before out.now out.failed
 
 -- memory was wanting before anything was read or went out, or the reader or the output failed
-pub data DebugBreaks (ns : Names) (bytes text : List ℕ) (limit natives reads : ℕ) (given : Given) (out errors : Sent) : Type 0 where
-  script_wants_memory : IsUnread given → IsSilent out → Accepts bytes → (fault : ScriptFault) → WantsMemory text fault → Tells faults.Memory errors → DebugBreaks ns bytes text limit natives reads given out errors
-  machine_wants_memory : IsUnread given → IsSilent out → Debugs bytes text limit natives → Tells faults.Memory errors → DebugBreaks ns bytes text limit natives reads given out errors
-  input_fails : (d : Debugs bytes text limit natives) → StopsAt ns d reads given out → Tells faults.File errors → DebugBreaks ns bytes text limit natives reads given out errors
-  output_fails : (d : Debugs bytes text limit natives) → BreaksAt ns d given out → Tells faults.Write errors → DebugBreaks ns bytes text limit natives reads given out errors
+pub data DebugBreaks (ns : NameLists) (bytes text : List ℕ) (limit natives reads : ℕ) (given : Given) (out errors : Sent) : Type 0 where
+  script_wants_memory : IsUnread given → IsSilent out → Accepts bytes → (fault : ScriptFault) → WantsMemory text fault → ReportsFault faults.Memory errors → DebugBreaks ns bytes text limit natives reads given out errors
+  machine_wants_memory : IsUnread given → IsSilent out → Debugs bytes text limit natives → ReportsFault faults.Memory errors → DebugBreaks ns bytes text limit natives reads given out errors
+  input_fails : (d : Debugs bytes text limit natives) → StopsAt ns d reads given out → ReportsFault faults.File errors → DebugBreaks ns bytes text limit natives reads given out errors
+  output_fails : (d : Debugs bytes text limit natives) → BreaksAt ns d given out → ReportsFault faults.Write errors → DebugBreaks ns bytes text limit natives reads given out errors
 
 -- what each status says of a call of `debug` that tells by these names
-abbrev pub DebugAnswersBy : Names → List ℕ → List ℕ → (limit natives reads : ℕ) → Given → Sent → Sent → ExitStatus → Type 0
+abbrev pub DebugAnswersBy : NameLists → List ℕ → List ℕ → (limit natives reads : ℕ) → Given → Sent → Sent → ExitStatus → Type 0
 DebugAnswersBy ns bytes text limit natives reads given out errors Done = (d : Debugs bytes text limit natives) × HoldsWhole ns d given out × IsSilent errors
 DebugAnswersBy ns bytes text limit natives reads given out errors ImageRefused = IsRefused bytes out errors × IsUnread given
 DebugAnswersBy ns bytes text limit natives reads given out errors CallRefused = (IsNoScript bytes text out errors ⊎ WantsNatives bytes text natives out errors) × IsUnread given

@@ -9,23 +9,23 @@ use Rattle.aom_semantics.specs.State.{State}
 use Rattle.aom_transcript.specs.declared.line.Line.{Line}
 use Rattle.aom_transcript.specs.declared.line.Ending.{Ending}
 use Rattle.aom_transcript.specs.Text.{end_text, ended, text_of}
-use Rattle.aom_debug_words.specs.Marks.{has_spot, is_set}
-use Rattle.aom_debug_words.specs.Help.{help_text}
-use Rattle.aom_debug_words.specs.declared.spot.Spot.{Spot}
-use Rattle.aom_debug_names.specs.Names.{Names}
-use Rattle.aom_debug_names.specs.Answers.{answer_by}
-use Rattle.aom_debug_words.specs.declared.answer.Answer.{Answer}
-use Rattle.aom_debug_moves.specs.Next.{next_of}
-use Rattle.aom_rules.specs.Typing.{Typing}
-use Rattle.aom_typings.specs.Strongest.{IsStrongest}
+use Rattle.aom_debug_protocol.specs.Marks.{has_spot, is_set}
+use Rattle.aom_debug_protocol.specs.Help.{help_text}
+use Rattle.aom_debug_protocol.specs.declared.spot.CodeLocation.{CodeLocation}
+use Rattle.aom_debug_symbols.specs.NameLists.{NameLists}
+use Rattle.aom_debug_symbols.specs.Answers.{answer_by}
+use Rattle.aom_debug_protocol.specs.declared.answer.Answer.{Answer}
+use Rattle.aom_debug_stepping.specs.Next.{next_of}
+use Rattle.aom_typing_rules.specs.Typing.{Typing}
+use Rattle.aom_static_bounds.specs.Strongest.{IsStrongest}
 use Rattle.aom_debug_views.specs.Frames.{frames_answers}
 use Rattle.aom_debug_views.specs.Actives.{InOrderOfChoice, active_answers}
 use Rattle.aom_debug_views.specs.Timers.{InOrderOfTime, timer_answers}
 use Rattle.aom_debug_views.specs.Owners.{owners, owners_text}
-use Rattle.aom_debug_views.specs.Sights.{breaks_answers, cells_answers, cleanup_answers, clock_text, recent_answers}
-use Rattle.aom_debug_views.specs.Telling.{answers_by, answers_text}
+use Rattle.aom_debug_views.specs.CellViews.{breaks_answers, cells_answers, cleanup_answers, clock_text, recent_answers}
+use Rattle.aom_debug_views.specs.Reporting.{answers_by, answers_text}
 use Rattle.aom_debug_paths.specs.Paths.{queue_answers, words_answers}
-use Rattle.aom_debug_words.specs.Ways.{Way}
+use Rattle.aom_debug_protocol.specs.Ways.{Way}
 
 -- ---- where a run stands
 
@@ -35,11 +35,11 @@ end_by None cells = []
 end_by (Some ending) cells = ended (end_text ending cells)
 
 -- that, and the step that is next
-abbrev pub place_text : Names → Image → State → List ℕ
+abbrev pub place_text : NameLists → Image → State → List ℕ
 place_text ns p s = end_by s.rest.ended (count_cells s.cells) ++ ended (answer_by ns (next_of p s))
 
 -- what is told of moves: their lines, and where they lead
-abbrev pub moved_text : Names → Image → List Line → State → List ℕ
+abbrev pub moved_text : NameLists → Image → List Line → State → List ℕ
 moved_text ns p lines u = text_of lines ++ place_text ns p u
 
 -- ---- numbers
@@ -49,59 +49,59 @@ abbrev pub is_count : ℕ → Bool
 is_count n = nat_lt 0 n && nat_le n 1000000
 
 -- a place of a method, if it has that many
-abbrev pub spot_at : Option Method → ℕ → ℕ → Option Spot
+abbrev pub spot_at : Option Method → ℕ → ℕ → Option CodeLocation
 spot_at None method place = None
 spot_at (Some m) method place = if nat_lt place (length m.code) then Some (record { method = method; place = place }) else None
 
-abbrev pub spot_by : Image → Option ℕ → Option ℕ → Option Spot
+abbrev pub spot_by : Image → Option ℕ → Option ℕ → Option CodeLocation
 spot_by p (Some method) (Some place) = spot_at (slice_get p.methods method) method place
 spot_by p _ _ = None
 
 -- the place that two numbers name, if they name one. An image has at most 1,024 methods of 1,024 instructions
-abbrev pub spot_named : Image → Number → Number → Option Spot
+abbrev pub spot_named : Image → Number → Number → Option CodeLocation
 spot_named p method place = spot_by p (number_within 0 65535 method) (number_within 0 65535 place)
 
 -- they name none, or one that may not be marked so
-abbrev pub NamesNone : (Spot → List Spot → Bool) → Image → Number → Number → List Spot → Type 0
-NamesNone may p method place spots = (spot_named p method place ≡ None) ⊎ ((spot : Spot) × (spot_named p method place ≡ Some spot) × (may spot spots ≡ false))
+abbrev pub NamesNone : (CodeLocation → List CodeLocation → Bool) → Image → Number → Number → List CodeLocation → Type 0
+NamesNone may p method place spots = (spot_named p method place ≡ None) ⊎ ((spot : CodeLocation) × (spot_named p method place ≡ Some spot) × (may spot spots ≡ false))
 
 -- they name none, or there are sixteen others
-abbrev pub NamesNoRoom : Image → Number → Number → List Spot → Type 0
+abbrev pub NamesNoRoom : Image → Number → Number → List CodeLocation → Type 0
 NamesNoRoom = NamesNone is_set
 
 -- they name none, or it has no breakpoint
-abbrev pub NamesNoMark : Image → Number → Number → List Spot → Type 0
+abbrev pub NamesNoMark : Image → Number → Number → List CodeLocation → Type 0
 NamesNoMark = NamesNone has_spot
 
 -- ---- looks
 
 -- what is enlisted in the order of choice, each on its line
-abbrev pub ShowsActives : Names → Image → State → List ℕ → Type 0
+abbrev pub ShowsActives : NameLists → Image → State → List ℕ → Type 0
 ShowsActives ns p s text = (names : List ℕ) × InOrderOfChoice s.cells names × (text ≡ answers_by ns (active_answers p s.cells names))
 
-abbrev pub ShowsCells : Names → Image → State → List ℕ → Type 0
+abbrev pub ShowsCells : NameLists → Image → State → List ℕ → Type 0
 ShowsCells ns p s text = text ≡ answers_by ns (cells_answers p s)
 
-abbrev pub ShowsCleanup : Names → State → List ℕ → Type 0
+abbrev pub ShowsCleanup : NameLists → State → List ℕ → Type 0
 ShowsCleanup ns s text = text ≡ answers_by ns (cleanup_answers s)
 
 -- what each place owns, a parent before its children
-abbrev pub ShowsOwners : Names → State → List ℕ → Type 0
+abbrev pub ShowsOwners : NameLists → State → List ℕ → Type 0
 ShowsOwners ns s text = text ≡ owners_text ns (owners s)
 
 -- the latest instructions, the oldest first
-abbrev pub ShowsRecent : Names → List Spot → List ℕ → Type 0
+abbrev pub ShowsRecent : NameLists → List CodeLocation → List ℕ → Type 0
 ShowsRecent ns spots text = text ≡ answers_by ns (recent_answers spots)
 
 -- the breakpoints, in the order in which they were set
-abbrev pub ShowsBreaks : Names → List Spot → List ℕ → Type 0
+abbrev pub ShowsBreaks : NameLists → List CodeLocation → List ℕ → Type 0
 ShowsBreaks ns spots text = text ≡ answers_by ns (breaks_answers spots)
 
 abbrev pub ShowsClock : State → List ℕ → Type 0
 ShowsClock s text = text ≡ clock_text s
 
 -- the timers that run, each on its line, the one that is due first before all others
-abbrev pub ShowsTimers : Names → State → List ℕ → Type 0
+abbrev pub ShowsTimers : NameLists → State → List ℕ → Type 0
 ShowsTimers ns s text = (names : List ℕ) × InOrderOfTime s.cells names × (text ≡ answers_by ns (timer_answers s.cells names))
 
 -- the words of the object that is owned at a path
@@ -113,7 +113,7 @@ abbrev pub ShowsQueue : State → Way → List ℕ → Type 0
 ShowsQueue s w text = (xs : List Answer) × (queue_answers s w ≡ Some xs) × (text ≡ answers_text xs)
 
 -- the methods at hand, the outermost first, by the strongest typing
-abbrev pub ShowsFrames : Names → Image → State → List ℕ → Type 0
+abbrev pub ShowsFrames : NameLists → Image → State → List ℕ → Type 0
 ShowsFrames ns p s text = (t : Typing) × IsStrongest p t × (text ≡ answers_by ns (frames_answers t s))
 
 -- all commands

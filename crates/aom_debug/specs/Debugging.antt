@@ -5,28 +5,28 @@ use Rattle.aom_semantics.specs.State.{State}
 use Rattle.aom_semantics.specs.World.{Reaches}
 use Rattle.aom_transcript.specs.declared.line.Line.{Line}
 use Rattle.aom_transcript.specs.Text.{ended}
-use Rattle.aom_debug_moves.specs.Calls.{StandsFor}
+use Rattle.aom_debug_stepping.specs.Calls.{StandsFor}
 use Rattle.aom_transcript.specs.Sinks.{after}
-use Rattle.aom_debug_moves.specs.Movers.{outside_of}
-use Rattle.aom_debug_words.specs.declared.fault.DebugFault.{DebugFault}
-use Rattle.aom_debug_words.specs.declared.fault.DebugFault.TheVariants.{BadCommand, NoSuch, Ended, WriteFault}
-use Rattle.aom_debug_words.specs.Marks.{has_spot, is_set, with_spot, without_spot}
-use Rattle.aom_debug_words.specs.declared.spot.Spot.{Spot}
-use Rattle.aom_debug_words.specs.declared.answer.Answer.TheVariants.{Done}
-use Rattle.aom_debug_words.specs.Answers.{answer_text}
-use Rattle.aom_debug_moves.specs.Courses.{Courses, course_of}
-use Rattle.aom_debug_moves.specs.declared.courses.Course.{Course}
-use Rattle.aom_debug_moves.specs.declared.over.Awaited.{Awaited}
-use Rattle.aom_debug_moves.specs.declared.courses.Course.TheVariants as course
-use Rattle.aom_debug_views.specs.Telling.{Tells, TellsPart}
+use Rattle.aom_debug_stepping.specs.Runners.{outside_of}
+use Rattle.aom_debug_protocol.specs.declared.fault.DebugFault.{DebugFault}
+use Rattle.aom_debug_protocol.specs.declared.fault.DebugFault.TheVariants.{BadCommand, NoSuch, Ended, WriteFault}
+use Rattle.aom_debug_protocol.specs.Marks.{has_spot, is_set, with_spot, without_spot}
+use Rattle.aom_debug_protocol.specs.declared.spot.CodeLocation.{CodeLocation}
+use Rattle.aom_debug_protocol.specs.declared.answer.Answer.TheVariants.{Done}
+use Rattle.aom_debug_protocol.specs.Answers.{answer_text}
+use Rattle.aom_debug_stepping.specs.RunGoals.{RunGoals, run_goal_of}
+use Rattle.aom_debug_stepping.specs.declared.run_goals.RunGoal.{RunGoal}
+use Rattle.aom_debug_stepping.specs.declared.over.Awaited.{Awaited}
+use Rattle.aom_debug_stepping.specs.declared.run_goals.RunGoal.TheVariants as course
+use Rattle.aom_debug_views.specs.Reporting.{Reports, ReportsPart}
 use Rattle.aom_debug_paths.specs.Paths.{IsFound, owned_at, queue_answers, words_answers}
 use Rattle.aom_debug_paths.specs.declared.following.Found.{Found}
-use Rattle.aom_machine_state.specs.Stands.{StandsFor as CoreStandsFor}
-use Rattle.aom_debug_words.specs.Ways.{Way}
+use Rattle.aom_machine_state.specs.Stands.{Refines as CoreStandsFor}
+use Rattle.aom_debug_protocol.specs.Ways.{Way}
 use Rattle.aom_debug.specs.Commands.{NamesNone, ShowsActives, ShowsBreaks, ShowsCells, ShowsCleanup, ShowsClock, ShowsFrames, ShowsHelp, ShowsOwners, ShowsQueue, ShowsRecent, ShowsTimers, ShowsWords, is_count, moved_text, place_text, spot_named}
 use Rattle.aom_debug.specs.declared.debugger.Debugger.{Debugger}
-use Rattle.aom_debug.specs.declared.looking.Look.{Look}
-use Rattle.aom_debug.specs.declared.looking.Look.TheVariants.{Cells as At_cells, Owners as At_owners, Cleanup as At_cleanup, Actives as At_actives, Recent as At_recent, Breaks as At_breaks, Clock as At_clock, Frames as At_frames, Help as At_help, Timers as At_timers}
+use Rattle.aom_debug.specs.declared.looking.Inspection.{Inspection}
+use Rattle.aom_debug.specs.declared.looking.Inspection.TheVariants.{Cells as At_cells, Owners as At_owners, Cleanup as At_cleanup, Actives as At_actives, History as At_recent, Breaks as At_breaks, Clock as At_clock, Frames as At_frames, Help as At_help, Timers as At_timers}
 
 -- what a call answers
 abbrev pub Answer : Type 0
@@ -40,7 +40,7 @@ pub record Outgoing : Type 0 where
 
 module _ {X : Type 0} {B : X → Type 0} where
   abbrev pub has_ended : Debugger X B → Bool
-  has_ended d = is_some d.mover.machine.core.parts.rest.ended
+  has_ended d = is_some d.runner.machine.core.parts.rest.ended
 
   -- a command is refused: it changes nothing and writes nothing
   pub record Declined (old new : Debugger X B) (out : Outgoing) : Type 0 where
@@ -50,25 +50,25 @@ module _ {X : Type 0} {B : X → Type 0} where
   -- ---- commands that go on
 
   -- from each state that the machine stood for such moves lead to one that it stands for, with the latest instructions as they are then, and their lines are out, and then where they lead
-  pub record Moved (leads : Debugger X B → Courses) (old new : Debugger X B) (out : Outgoing) : Type 0 where
-    pub goes : (s : State) → StandsFor old.mover.machine s → (lines : List Line) × (u : State) × leads old old.mover.recent new.mover.recent s lines u × (out.now ≡ after out.before (moved_text old.names old.mover.machine.core.image lines u)) × StandsFor new.mover.machine u
+  pub record Moved (leads : Debugger X B → RunGoals) (old new : Debugger X B) (out : Outgoing) : Type 0 where
+    pub goes : (s : State) → StandsFor old.runner.machine s → (lines : List Line) × (u : State) × leads old old.runner.recent new.runner.recent s lines u × (out.now ≡ after out.before (moved_text old.names old.runner.machine.core.image lines u)) × StandsFor new.runner.machine u
     pub spots : new.breakpoints ≡ old.breakpoints
     pub names : new.names ≡ old.names
     pub well : new.has_failed ≡ false
 
   -- the sink failed: it is a run, and a beginning of what would be told of it is out
   pub record Cut (old new : Debugger X B) (out : Outgoing) : Type 0 where
-    pub goes : (s : State) → StandsFor old.mover.machine s → (lines : List Line) × (u : State) × Reaches old.mover.machine.core.image (outside_of old.mover) s lines u × ((sent : ℕ) × (out.now ≡ after out.before (take sent (moved_text old.names old.mover.machine.core.image lines u)))) × StandsFor new.mover.machine u
+    pub goes : (s : State) → StandsFor old.runner.machine s → (lines : List Line) × (u : State) × Reaches old.runner.machine.core.image (outside_of old.runner) s lines u × ((sent : ℕ) × (out.now ≡ after out.before (take sent (moved_text old.names old.runner.machine.core.image lines u)))) × StandsFor new.runner.machine u
     pub spots : new.breakpoints ≡ old.breakpoints
     pub names : new.names ≡ old.names
     pub fails : out.failed ≡ true
-    pub ill : new.has_failed ≡ true
+    pub has_write_failed : new.has_failed ≡ true
 
   -- the run is not over, and nothing has failed
   abbrev pub MayGo : Debugger X B → Type 0
   MayGo d = (d.has_failed ≡ false) × (has_ended d ≡ false)
 
-  abbrev pub Goes : (Debugger X B → Courses) → Debugger X B → Debugger X B → Outgoing → Answer → Type 0
+  abbrev pub Goes : (Debugger X B → RunGoals) → Debugger X B → Debugger X B → Outgoing → Answer → Type 0
   Goes leads old new out (Ok done) = MayGo old × Moved leads old new out
   Goes leads old new out (Err Ended) = ((old.has_failed ≡ true) ⊎ (has_ended old ≡ true)) × Declined old new out
   Goes leads old new out (Err WriteFault) = MayGo old × Cut old new out
@@ -81,12 +81,12 @@ module _ {X : Type 0} {B : X → Type 0} where
 
   -- or where they lead is told
   abbrev pub Shows : Debugger X B → Debugger X B → Outgoing → Answer → Type 0
-  Shows old new out (Ok done) = (new ≡ old) × Tells old.mover.machine.core (λ s. place_text old.names old.mover.machine.core.image s) out.before out.now
-  Shows old new out (Err fault) = (new ≡ record old { has_failed = true }) × TellsPart old.mover.machine.core (λ s. place_text old.names old.mover.machine.core.image s) fault out.failed out.before out.now
+  Shows old new out (Ok done) = (new ≡ old) × Reports old.runner.machine.core (λ s. place_text old.names old.runner.machine.core.image s) out.before out.now
+  Shows old new out (Err fault) = (new ≡ record old { has_failed = true }) × ReportsPart old.runner.machine.core (λ s. place_text old.names old.runner.machine.core.image s) fault out.failed out.before out.now
 
   -- so far
-  abbrev pub goes_of : Course → Debugger X B → Courses
-  goes_of course d = course_of d.mover.machine.core.image (outside_of d.mover) d.breakpoints course
+  abbrev pub goes_of : RunGoal → Debugger X B → RunGoals
+  goes_of course d = run_goal_of d.runner.machine.core.image (outside_of d.runner) d.breakpoints course
 
   -- no number of steps
   abbrev pub CountsNot : Debugger X B → Debugger X B → Outgoing → Answer → Type 0
@@ -95,28 +95,28 @@ module _ {X : Type 0} {B : X → Type 0} where
   CountsNot old new out answer = ⊥
 
   -- so many steps
-  abbrev pub steps_of : ℕ → Debugger X B → Courses
+  abbrev pub steps_of : ℕ → Debugger X B → RunGoals
   steps_of n = goes_of (course.Steps n)
 
   abbrev pub Steps : ℕ → Debugger X B → Debugger X B → Outgoing → Answer → Type 0
   Steps n old new out answer = cond (is_count n) (Goes (steps_of n) old new out answer) (CountsNot old new out answer)
 
   -- to the end of a dispatch
-  abbrev pub turns_of : Debugger X B → Courses
+  abbrev pub turns_of : Debugger X B → RunGoals
   turns_of = goes_of course.EndOfDispatch
 
   abbrev pub Turns : Debugger X B → Debugger X B → Outgoing → Answer → Type 0
   Turns old new out answer = Goes turns_of old new out answer
 
   -- to a breakpoint
-  abbrev pub runs_of : Debugger X B → Courses
+  abbrev pub runs_of : Debugger X B → RunGoals
   runs_of = goes_of course.Breakpoint
 
   abbrev pub Runs : Debugger X B → Debugger X B → Outgoing → Answer → Type 0
   Runs old new out answer = Goes runs_of old new out answer
 
   -- until that is over
-  abbrev pub overs_of : Awaited → Debugger X B → Courses
+  abbrev pub overs_of : Awaited → Debugger X B → RunGoals
   overs_of scope = goes_of (course.Over scope)
 
   abbrev pub GoesOver : Awaited → Debugger X B → Debugger X B → Outgoing → Answer → Type 0
@@ -135,48 +135,48 @@ module _ {X : Type 0} {B : X → Type 0} where
   NamesNot old new out answer = ⊥
 
   -- to a place, if it is one
-  abbrev pub places_of : Spot → Debugger X B → Courses
+  abbrev pub places_of : CodeLocation → Debugger X B → RunGoals
   places_of spot = goes_of (course.Place spot)
 
-  abbrev pub GoesNamed : Option Spot → Debugger X B → Debugger X B → Outgoing → Answer → Type 0
+  abbrev pub GoesNamed : Option CodeLocation → Debugger X B → Debugger X B → Outgoing → Answer → Type 0
   GoesNamed None old new out answer = NamesNot old new out answer
   GoesNamed (Some spot) old new out answer = Goes (places_of spot) old new out answer
 
-  abbrev pub Untils : Number → Number → Debugger X B → Debugger X B → Outgoing → Answer → Type 0
-  Untils method place old new out answer = GoesNamed (spot_named old.mover.machine.core.image method place) old new out answer
+  abbrev pub UntilCommands : Number → Number → Debugger X B → Debugger X B → Outgoing → Answer → Type 0
+  UntilCommands method place old new out answer = GoesNamed (spot_named old.runner.machine.core.image method place) old new out answer
 
   -- ---- a breakpoint
 
   -- where it may be set, or taken away, and what the breakpoints are then
-  module _ (may : Spot → List Spot → Bool) (marked : Spot → List Spot → List Spot) where
+  module _ (may : CodeLocation → List CodeLocation → Bool) (marked : CodeLocation → List CodeLocation → List CodeLocation) where
     -- the numbers name a place, which may be marked so
-    pub record CanMark (method place : Number) (d : Debugger X B) (spot : Spot) : Type 0 where
-      pub names : spot_named d.mover.machine.core.image method place ≡ Some spot
+    pub record CanMark (method place : Number) (d : Debugger X B) (spot : CodeLocation) : Type 0 where
+      pub names : spot_named d.runner.machine.core.image method place ≡ Some spot
       pub room : may spot d.breakpoints ≡ true
 
     -- at a place
-    abbrev pub MarksAt : Spot → Debugger X B → Debugger X B → Outgoing → Answer → Type 0
+    abbrev pub MarksAt : CodeLocation → Debugger X B → Debugger X B → Outgoing → Answer → Type 0
     MarksAt spot old new out (Ok done) = (may spot old.breakpoints ≡ true) × (new ≡ record old { breakpoints = marked spot old.breakpoints }) × (out.now ≡ after out.before (ended (answer_text Done)))
     MarksAt spot old new out (Err NoSuch) = (may spot old.breakpoints ≡ false) × Declined old new out
     MarksAt spot old new out (Err WriteFault) = (may spot old.breakpoints ≡ true) × (new ≡ record old { breakpoints = marked spot old.breakpoints; has_failed = true }) × (out.failed ≡ true) × (sent : ℕ) × (out.now ≡ after out.before (take sent (ended (answer_text Done))))
     MarksAt spot old new out (Err fault) = ⊥
 
     abbrev pub Marks : Number → Number → Debugger X B → Debugger X B → Outgoing → Answer → Type 0
-    Marks method place old new out (Ok done) = (old.has_failed ≡ false) × (spot : Spot) × CanMark method place old spot × (new ≡ record old { breakpoints = marked spot old.breakpoints }) × (out.now ≡ after out.before (ended (answer_text Done)))
-    Marks method place old new out (Err NoSuch) = (old.has_failed ≡ false) × NamesNone may old.mover.machine.core.image method place old.breakpoints × Declined old new out
+    Marks method place old new out (Ok done) = (old.has_failed ≡ false) × (spot : CodeLocation) × CanMark method place old spot × (new ≡ record old { breakpoints = marked spot old.breakpoints }) × (out.now ≡ after out.before (ended (answer_text Done)))
+    Marks method place old new out (Err NoSuch) = (old.has_failed ≡ false) × NamesNone may old.runner.machine.core.image method place old.breakpoints × Declined old new out
     Marks method place old new out (Err Ended) = (old.has_failed ≡ true) × Declined old new out
-    Marks method place old new out (Err WriteFault) = (old.has_failed ≡ false) × (spot : Spot) × CanMark method place old spot × (new ≡ record old { breakpoints = marked spot old.breakpoints; has_failed = true }) × (out.failed ≡ true) × (sent : ℕ) × (out.now ≡ after out.before (take sent (ended (answer_text Done))))
+    Marks method place old new out (Err WriteFault) = (old.has_failed ≡ false) × (spot : CodeLocation) × CanMark method place old spot × (new ≡ record old { breakpoints = marked spot old.breakpoints; has_failed = true }) × (out.failed ≡ true) × (sent : ℕ) × (out.now ≡ after out.before (take sent (ended (answer_text Done))))
     Marks method place old new out (Err fault) = ⊥
 
   -- one is set
-  abbrev pub SetsAt : Spot → Debugger X B → Debugger X B → Outgoing → Answer → Type 0
+  abbrev pub SetsAt : CodeLocation → Debugger X B → Debugger X B → Outgoing → Answer → Type 0
   SetsAt = MarksAt is_set with_spot
 
   abbrev pub Sets : Number → Number → Debugger X B → Debugger X B → Outgoing → Answer → Type 0
   Sets = Marks is_set with_spot
 
   -- one is taken away
-  abbrev pub UnsetsAt : Spot → Debugger X B → Debugger X B → Outgoing → Answer → Type 0
+  abbrev pub UnsetsAt : CodeLocation → Debugger X B → Debugger X B → Outgoing → Answer → Type 0
   UnsetsAt = MarksAt has_spot without_spot
 
   abbrev pub Unsets : Number → Number → Debugger X B → Debugger X B → Outgoing → Answer → Type 0
@@ -185,25 +185,25 @@ module _ {X : Type 0} {B : X → Type 0} where
   -- ---- looks
 
   -- of a state and the latest instructions
-  abbrev pub Sees : Look → Debugger X B → State → List ℕ → Type 0
-  Sees At_cells d s text = ShowsCells d.names d.mover.machine.core.image s text
+  abbrev pub Sees : Inspection → Debugger X B → State → List ℕ → Type 0
+  Sees At_cells d s text = ShowsCells d.names d.runner.machine.core.image s text
   Sees At_owners d s text = ShowsOwners d.names s text
   Sees At_cleanup d s text = ShowsCleanup d.names s text
-  Sees At_actives d s text = ShowsActives d.names d.mover.machine.core.image s text
-  Sees At_recent d s text = ShowsRecent d.names d.mover.recent text
+  Sees At_actives d s text = ShowsActives d.names d.runner.machine.core.image s text
+  Sees At_recent d s text = ShowsRecent d.names d.runner.recent text
   Sees At_breaks d s text = ShowsBreaks d.names d.breakpoints text
   Sees At_clock d s text = ShowsClock s text
-  Sees At_frames d s text = ShowsFrames d.names d.mover.machine.core.image s text
+  Sees At_frames d s text = ShowsFrames d.names d.runner.machine.core.image s text
   Sees At_help d s text = ShowsHelp text
   Sees At_timers d s text = ShowsTimers d.names s text
 
   -- what each state shows that the machine stands for is out
   abbrev pub Seen : (Debugger X B → State → List ℕ → Type 0) → Debugger X B → Option (List ℕ) → Option (List ℕ) → Type 0
-  Seen shows d before now = (s : State) → StandsFor d.mover.machine s → (text : List ℕ) × shows d s text × (now ≡ after before text)
+  Seen shows d before now = (s : State) → StandsFor d.runner.machine s → (text : List ℕ) × shows d s text × (now ≡ after before text)
 
   -- or a beginning of it
   abbrev pub SeenCut : (Debugger X B → State → List ℕ → Type 0) → Debugger X B → Option (List ℕ) → Option (List ℕ) → Type 0
-  SeenCut shows d before now = (s : State) → StandsFor d.mover.machine s → (text : List ℕ) × shows d s text × ((sent : ℕ) × (now ≡ after before (take sent text)))
+  SeenCut shows d before now = (s : State) → StandsFor d.runner.machine s → (text : List ℕ) × shows d s text × ((sent : ℕ) × (now ≡ after before (take sent text)))
 
   -- since the sink failed, and the fault says so
   abbrev pub SeenPart : (Debugger X B → State → List ℕ → Type 0) → Debugger X B → DebugFault → Bool → Option (List ℕ) → Option (List ℕ) → Type 0
@@ -220,18 +220,18 @@ module _ {X : Type 0} {B : X → Type 0} where
 
   -- one that is refused where no object is owned there
   abbrev pub LooksAt : (Debugger X B → State → List ℕ → Type 0) → (Debugger X B → State → Type 0) → Debugger X B → Debugger X B → Outgoing → Answer → Type 0
-  LooksAt shows lacks old new out (Err NoSuch) = (old.has_failed ≡ false) × Declined old new out × ((s : State) → StandsFor old.mover.machine s → lacks old s)
+  LooksAt shows lacks old new out (Err NoSuch) = (old.has_failed ≡ false) × Declined old new out × ((s : State) → StandsFor old.runner.machine s → lacks old s)
   LooksAt shows lacks old new out answer = Looks shows old new out answer
 
   -- what is found there is the object that each state has there, or it has none
   abbrev pub Finds : Way → Debugger X B → Option Found → Type 0
-  Finds w d found = (s : State) → CoreStandsFor d.mover.machine.core s → IsFound (owned_at s w) found
+  Finds w d found = (s : State) → CoreStandsFor d.runner.machine.core s → IsFound (owned_at s w) found
 
   abbrev pub SeesWords : Way → Debugger X B → State → List ℕ → Type 0
-  SeesWords w d s text = ShowsWords d.mover.machine.core.image s w text
+  SeesWords w d s text = ShowsWords d.runner.machine.core.image s w text
 
   abbrev pub LacksWords : Way → Debugger X B → State → Type 0
-  LacksWords w d s = words_answers d.mover.machine.core.image s w ≡ None
+  LacksWords w d s = words_answers d.runner.machine.core.image s w ≡ None
 
   abbrev pub SeesQueue : Way → Debugger X B → State → List ℕ → Type 0
   SeesQueue w d s text = ShowsQueue s w text

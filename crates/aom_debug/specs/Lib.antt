@@ -1,13 +1,13 @@
 pub mod Answers
 pub mod Beginning
 pub mod Sessions
-pub mod Hearing
-pub mod Conversing
+pub mod Observing
+pub mod SessionLoop
 pub mod Commands
 pub mod Debugging
-pub mod Obeying
+pub mod Executing
 -- what a session says of commands: by which courses they go, and when their lines are cut
-pub use Rattle.aom_debug_moves.specs.Courses
-pub use Rattle.aom_debug_views.specs.Telling
-pub use Rattle.aom_debug_moves.specs.Movers
-pub use Rattle.aom_debug_moves.specs.Turns
+pub use Rattle.aom_debug_stepping.specs.RunGoals
+pub use Rattle.aom_debug_views.specs.Reporting
+pub use Rattle.aom_debug_stepping.specs.Runners
+pub use Rattle.aom_debug_stepping.specs.Turns

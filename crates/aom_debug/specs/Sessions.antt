@@ -7,27 +7,27 @@ use Rattle.aom_semantics.specs.State.{State}
 use Rattle.aom_semantics.specs.World.{Environment, Reaches}
 use Rattle.aom_transcript.specs.declared.line.Line.{Line}
 use Rattle.aom_transcript.specs.Text.{ended}
-use Rattle.aom_debug_names.specs.Names.{Names}
-use Rattle.aom_debug_names.specs.Commands.{command_by}
-use Rattle.aom_debug_words.specs.declared.command.Command.{Command}
-use Rattle.aom_debug_words.specs.declared.command.Command.TheVariants.{Step, Next, Finish, Turn, Go, Until, Break, Unbreak, Breaks, Clock, Frames, Help, Cells, Owners, Cleanup, Actives, Recent, Timers, Words, Queue}
-use Rattle.aom_debug_words.specs.declared.fault.DebugFault.{DebugFault}
-use Rattle.aom_debug_words.specs.declared.fault.DebugFault.TheVariants as faults
-use Rattle.aom_debug_words.specs.Marks.{has_spot, is_set, with_spot, without_spot}
-use Rattle.aom_debug_words.specs.declared.spot.Spot.{Spot}
-use Rattle.aom_debug_words.specs.declared.answer.Answer.TheVariants.{Done, Fault}
-use Rattle.aom_debug_words.specs.Answers.{answer_text}
+use Rattle.aom_debug_symbols.specs.NameLists.{NameLists}
+use Rattle.aom_debug_symbols.specs.Commands.{command_by}
+use Rattle.aom_debug_protocol.specs.declared.command.Command.{Command}
+use Rattle.aom_debug_protocol.specs.declared.command.Command.TheVariants.{Step, Next, Finish, Turn, Go, Until, Break, Unbreak, Breaks, Clock, Frames, Help, Cells, Owners, Cleanup, Actives, History, Timers, Words, Queue}
+use Rattle.aom_debug_protocol.specs.declared.fault.DebugFault.{DebugFault}
+use Rattle.aom_debug_protocol.specs.declared.fault.DebugFault.TheVariants as faults
+use Rattle.aom_debug_protocol.specs.Marks.{has_spot, is_set, with_spot, without_spot}
+use Rattle.aom_debug_protocol.specs.declared.spot.CodeLocation.{CodeLocation}
+use Rattle.aom_debug_protocol.specs.declared.answer.Answer.TheVariants.{Done, Fault}
+use Rattle.aom_debug_protocol.specs.Answers.{answer_text}
 use Rattle.aom_debug_paths.specs.Paths.{queue_answers, words_answers}
-use Rattle.aom_debug.specs.Courses.{Courses, GoesBy, GoesOver, GoesToBreakpoint, GoesToPlace, ToLimit, TurnsOver}
-use Rattle.aom_debug_moves.specs.declared.over.Awaited.TheVariants as scopes
+use Rattle.aom_debug.specs.RunGoals.{RunGoals, GoesBy, GoesOver, GoesToBreakpoint, GoesToPlace, ToLimit, TurnsOver}
+use Rattle.aom_debug_stepping.specs.declared.over.Awaited.TheVariants as scopes
 use Rattle.aom_debug.specs.Commands.{NamesNoMark, NamesNoRoom, ShowsActives, ShowsBreaks, ShowsCells, ShowsCleanup, ShowsClock, ShowsFrames, ShowsHelp, ShowsOwners, ShowsQueue, ShowsRecent, ShowsTimers, ShowsWords, is_count, moved_text, spot_named}
 
 -- where a session stands: at a state, with these breakpoints, these were the latest instructions, and all is told by the names and the lines of a text, where there is one
 pub record SessionState : Type 0 where
   pub state : State
-  pub spots : List Spot
-  pub recent : List Spot
-  pub names : Names
+  pub spots : List CodeLocation
+  pub recent : List CodeLocation
+  pub names : NameLists
 
 abbrev pub has_ended : SessionState → Bool
 has_ended a = is_some a.state.rest.ended
@@ -39,16 +39,16 @@ abbrev pub Shown : (List ℕ → Type 0) → SessionState → List ℕ → Sessi
 Shown shows a text b = (b ≡ a) × shows text
 
 -- it goes on by such moves, with which the run may end by its limit, and tells their lines and where they lead
-abbrev pub Goes : Image → Environment → Courses → SessionState → List ℕ → SessionState → Type 0
+abbrev pub Goes : Image → Environment → RunGoals → SessionState → List ℕ → SessionState → Type 0
 Goes p outside leads a text b = (has_ended a ≡ false) × (lines : List Line) × ToLimit p outside leads a.recent b.recent a.state lines b.state × (b.spots ≡ a.spots) × (b.names ≡ a.names) × (text ≡ moved_text a.names p lines b.state)
 
 -- it goes on to the place that two numbers name
 abbrev pub GoesUntil : Image → Environment → Number → Number → SessionState → List ℕ → SessionState → Type 0
-GoesUntil p outside method place a text b = (spot : Spot) × (spot_named p method place ≡ Some spot) × Goes p outside (GoesToPlace p outside spot a.spots) a text b
+GoesUntil p outside method place a text b = (spot : CodeLocation) × (spot_named p method place ≡ Some spot) × Goes p outside (GoesToPlace p outside spot a.spots) a text b
 
 -- the breakpoints are others, where the place may be marked so
-abbrev pub Marks : (Spot → List Spot → Bool) → (Spot → List Spot → List Spot) → Image → Number → Number → SessionState → List ℕ → SessionState → Type 0
-Marks may marked p method place a text b = (spot : Spot) × (spot_named p method place ≡ Some spot) × (may spot a.spots ≡ true) × (b ≡ record a { spots = marked spot a.spots }) × (text ≡ ended (answer_text Done))
+abbrev pub Marks : (CodeLocation → List CodeLocation → Bool) → (CodeLocation → List CodeLocation → List CodeLocation) → Image → Number → Number → SessionState → List ℕ → SessionState → Type 0
+Marks may marked p method place a text b = (spot : CodeLocation) × (spot_named p method place ≡ Some spot) × (may spot a.spots ≡ true) × (b ≡ record a { spots = marked spot a.spots }) × (text ≡ ended (answer_text Done))
 
 -- a breakpoint is set
 abbrev pub Sets : Image → Number → Number → SessionState → List ℕ → SessionState → Type 0
@@ -77,7 +77,7 @@ Does p outside Owners a text b = Shown (λ t. ShowsOwners a.names a.state t) a t
 Does p outside Cleanup a text b = Shown (λ t. ShowsCleanup a.names a.state t) a text b
 Does p outside Actives a text b = Shown (λ t. ShowsActives a.names p a.state t) a text b
 Does p outside Timers a text b = Shown (λ t. ShowsTimers a.names a.state t) a text b
-Does p outside Recent a text b = Shown (λ t. ShowsRecent a.names a.recent t) a text b
+Does p outside History a text b = Shown (λ t. ShowsRecent a.names a.recent t) a text b
 Does p outside (Words w) a text b = Shown (λ t. ShowsWords p a.state w t) a text b
 Does p outside (Queue w) a text b = Shown (λ t. ShowsQueue a.state w t) a text b
 
@@ -103,19 +103,19 @@ abbrev pub fault_text : DebugFault → List ℕ
 fault_text fault = ended (answer_text (Fault fault))
 
 -- a fault is told, and nothing is changed
-abbrev pub Told : DebugFault → SessionState → List ℕ → SessionState → Type 0
-Told fault a text b = (b ≡ a) × (text ≡ fault_text fault)
+abbrev pub Reported : DebugFault → SessionState → List ℕ → SessionState → Type 0
+Reported fault a text b = (b ≡ a) × (text ≡ fault_text fault)
 
 -- what a line says is done, or refused
-abbrev pub Heeds : Image → Environment → Result (Option Command) DebugFault → SessionState → List ℕ → SessionState → Type 0
-Heeds p outside (Err fault) a text b = Told fault a text b
-Heeds p outside (Ok None) a text b = (b ≡ a) × (text ≡ [])
-Heeds p outside (Ok (Some command)) a text b = Does p outside command a text b ⊎ ((fault : DebugFault) × Refuses p command a fault × Told fault a text b)
+abbrev pub ExecutesLine : Image → Environment → Result (Option Command) DebugFault → SessionState → List ℕ → SessionState → Type 0
+ExecutesLine p outside (Err fault) a text b = Reported fault a text b
+ExecutesLine p outside (Ok None) a text b = (b ≡ a) × (text ≡ [])
+ExecutesLine p outside (Ok (Some command)) a text b = Does p outside command a text b ⊎ ((fault : DebugFault) × Refuses p command a fault × Reported fault a text b)
 
 -- lines one after another, and all that they tell
 pub data Session (p : Image) (outside : Environment) (a : SessionState) : List (List ℕ) → List ℕ → SessionState → Type 0 where
   begins : Session p outside a [] [] a
-  heeds : {lines : List (List ℕ)} {told : List ℕ} {b c : SessionState} (line text : List ℕ) → Session p outside a lines told b → Heeds p outside (command_by b.names line) b text c → Session p outside a (lines ++ line ∷ []) (told ++ text) c
+  executes_line : {lines : List (List ℕ)} {reported : List ℕ} {b c : SessionState} (line text : List ℕ) → Session p outside a lines reported b → ExecutesLine p outside (command_by b.names line) b text c → Session p outside a (lines ++ line ∷ []) (reported ++ text) c
 
 -- a command that goes on, and may
 abbrev pub MovesOn : Image → Result (Option Command) DebugFault → SessionState → Type 0
@@ -129,7 +129,7 @@ MovesOn p said a = ⊥
 
 -- what the next line tells is cut: of moves it is a beginning of what would be told of a run
 abbrev pub Begins : Image → Environment → Result (Option Command) DebugFault → SessionState → List ℕ → Type 0
-Begins p outside said a text = ((b : SessionState) × Heeds p outside said a text b) ⊎ (MovesOn p said a × (lines : List Line) × (u : State) × Reaches p outside a.state lines u × (text ≡ moved_text a.names p lines u))
+Begins p outside said a text = ((b : SessionState) × ExecutesLine p outside said a text b) ⊎ (MovesOn p said a × (lines : List Line) × (u : State) × Reaches p outside a.state lines u × (text ≡ moved_text a.names p lines u))
 
 -- ---- the lines of what has come
 

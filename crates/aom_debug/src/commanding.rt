@@ -1,42 +1,42 @@
 //! Commands by their lines.
 ghost use Rattle.std.specs.Prelude.{◌≡◌};
 ghost use Rattle.aom_natives.specs.Slots.{AllAgree};
-ghost use Rattle.aom_debug_names.specs.Commands.{command_by};
-ghost use Rattle.aom_debug_moves.specs.Movers.{IsReady, Keeps};
-ghost use Rattle.aom_debug.specs.Obeying.{Heeds, Obeys};
+ghost use Rattle.aom_debug_symbols.specs.Commands.{command_by};
+ghost use Rattle.aom_debug_stepping.specs.Runners.{IsReady, KeepsRunner};
+ghost use Rattle.aom_debug.specs.Executing.{ExecutesLine, Executes};
 
 use crate::Debugger;
-use aom_debug_moves::{Awaited, Sink};
-use aom_debug_names::read_named;
-use aom_debug_words::{Command, DebugFault};
+use aom_debug_protocol::{Command, DebugFault};
+use aom_debug_stepping::{Awaited, Sink};
+use aom_debug_symbols::read_named;
 use aom_natives::Native;
 
 impl<'a> Debugger<'a> {
     /// Does what a line of commands says, which is given without its line feed. A line without words asks nothing.
     pub fn command<W: Sink>(&mut self, line: &[u8], out: &mut W) -> Result<(), DebugFault>
-        requires agree { AllAgree (λ l. l.ids) (λ l. (⟦<dyn Native as Native>⟧ l.native.vtable).owed l.native.value) self.old.mover.machine.natives.slots.items }
-        requires ready { IsReady self.old.mover }
-        ensures agree { AllAgree (λ l. l.ids) (λ l. (⟦<dyn Native as Native>⟧ l.native.vtable).owed l.native.value) self.new.mover.machine.natives.slots.items }
-        ensures keeps { Keeps self.old.mover self.new.mover }
-        ensures answer { Heeds (command_by self.old.names line.now) self.old self.new (record { before = W.out out.old; now = W.out out.new; failed = W.failed out.new }) result }
+        requires agree { AllAgree (λ l. l.ids) (λ l. (⟦<dyn Native as Native>⟧ l.native.vtable).owed l.native.value) self.old.runner.machine.natives.slots.items }
+        requires ready { IsReady self.old.runner }
+        ensures agree { AllAgree (λ l. l.ids) (λ l. (⟦<dyn Native as Native>⟧ l.native.vtable).owed l.native.value) self.new.runner.machine.natives.slots.items }
+        ensures keeps { KeepsRunner self.old.runner self.new.runner }
+        ensures answer { ExecutesLine (command_by self.old.names line.now) self.old self.new (record { before = W.out out.old; now = W.out out.new; failed = W.failed out.new }) result }
     {
         if self.has_failed {
             return Err(DebugFault::Ended);
         }
         match read_named(&self.names, line) {
-            Ok(Some(command)) => self.obey(command, out),
+            Ok(Some(command)) => self.execute(command, out),
             Ok(None) => Ok(()),
             Err(fault) => Err(fault),
         }
     }
 
     /// Does what a command says.
-    pub fn obey<W: Sink>(&mut self, command: Command, out: &mut W) -> Result<(), DebugFault>
-        requires agree { AllAgree (λ l. l.ids) (λ l. (⟦<dyn Native as Native>⟧ l.native.vtable).owed l.native.value) self.old.mover.machine.natives.slots.items }
-        requires ready { IsReady self.old.mover }
-        ensures agree { AllAgree (λ l. l.ids) (λ l. (⟦<dyn Native as Native>⟧ l.native.vtable).owed l.native.value) self.new.mover.machine.natives.slots.items }
-        ensures keeps { Keeps self.old.mover self.new.mover }
-        ensures answer { Obeys command self.old self.new (record { before = W.out out.old; now = W.out out.new; failed = W.failed out.new }) result }
+    pub fn execute<W: Sink>(&mut self, command: Command, out: &mut W) -> Result<(), DebugFault>
+        requires agree { AllAgree (λ l. l.ids) (λ l. (⟦<dyn Native as Native>⟧ l.native.vtable).owed l.native.value) self.old.runner.machine.natives.slots.items }
+        requires ready { IsReady self.old.runner }
+        ensures agree { AllAgree (λ l. l.ids) (λ l. (⟦<dyn Native as Native>⟧ l.native.vtable).owed l.native.value) self.new.runner.machine.natives.slots.items }
+        ensures keeps { KeepsRunner self.old.runner self.new.runner }
+        ensures answer { Executes command self.old self.new (record { before = W.out out.old; now = W.out out.new; failed = W.failed out.new }) result }
     {
         match command {
             Command::Step(steps) => self.step(steps, out),
@@ -51,7 +51,7 @@ impl<'a> Debugger<'a> {
             Command::Owners => self.owners(out),
             Command::Cleanup => self.cleanup(out),
             Command::Actives => self.actives(out),
-            Command::Recent => self.recent(out),
+            Command::History => self.recent(out),
             Command::Breaks => self.breaks(out),
             Command::Clock => self.clock(out),
             Command::Frames => self.frames(out),

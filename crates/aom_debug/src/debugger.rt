@@ -1,33 +1,33 @@
 //! A debugger.
 ghost use Rattle.std.specs.Prelude.{◌≡◌, ◌+◌, ◌≤◌, ◌||◌, [], false, true, IfErr, IfNone, IfOk, IfSome};
-ghost use Rattle.aom_debug_moves.specs.Calls.{Stands};
-ghost use Rattle.aom_debug_words.specs.declared.fault.DebugFault.TheVariants.{OutOfMemory};
+ghost use Rattle.aom_debug_stepping.specs.Calls.{Stands};
+ghost use Rattle.aom_debug_protocol.specs.declared.fault.DebugFault.TheVariants.{OutOfMemory};
 ghost use Rattle.aom_machine_state.specs.LineBuffer.{step_lines};
 ghost use Rattle.aom_script.specs.Script.{IsTimely};
 ghost use Rattle.aom_natives.specs.Slots.{AllAgree};
-ghost use Rattle.aom_debug_moves.specs.Movers.{IsReady, Keeps};
+ghost use Rattle.aom_debug_stepping.specs.Runners.{IsReady, KeepsRunner};
 ghost use Rattle.aom_debug.specs.Debugging.{GivesUp, Goes, Runs, Sets, SetsAt, Shows, Steps, Turns, goes_of, has_ended};
 
-use crate::showing::tell_place;
-use aom_debug_moves::{Course, Mover, Progress, Sink, go};
-use aom_debug_names::SourceNames;
-use aom_debug_views::tell;
-use aom_debug_words::{Answer, Breakpoints, DebugFault, Recent, Spot};
+use crate::showing::report_place;
+use aom_debug_protocol::{Answer, Breakpoints, CodeLocation, DebugFault, History};
+use aom_debug_stepping::{Progress, RunGoal, Runner, Sink, go};
+use aom_debug_symbols::SourceNames;
+use aom_debug_views::report;
 use aom_machine_state::LineBuffer;
 use aom_natives::Native;
-use aom_run::Machine;
+use aom_run::HostedMachine;
 use aom_script::Script;
 use aom_text::Number;
 use aom_transcript::Page;
 use std::alloc::Global;
 
 /// The most steps of one command.
-const MOST_STEPS: u32 = 1_000_000;
+const MAX_STEPS: u32 = 1_000_000;
 
 /// A machine that goes on as it is told.
 #[derive(Drop)]
 pub struct Debugger<'a> {
-    pub mover: Mover<'a>,
+    pub runner: Runner<'a>,
     /// The names and the lines by which all is told, where there are some.
     pub names: SourceNames<'a>,
     pub breakpoints: Breakpoints,
@@ -40,7 +40,7 @@ impl<'a> Debugger<'a> {
     /// names. All the memory that any command will ever need is taken here: where there is none for it, no debugger is made.
     pub fn new(
         alloc: Global,
-        machine: Machine<'a>,
+        machine: HostedMachine<'a>,
         script: Script,
         lines: LineBuffer,
         limit: u32,
@@ -50,19 +50,19 @@ impl<'a> Debugger<'a> {
         requires stands { Stands machine }
         requires timely { IsTimely script.timed }
         requires lines { (lines.lines ≡ []) × (64 + step_lines machine.core.image.header.messages ≤ lines.room) }
-        ensures agree { IfOk result (λ d. AllAgree (λ l. l.ids) (λ l. (⟦<dyn Native as Native>⟧ l.native.vtable).owed l.native.value) d.mover.machine.natives.slots.items) }
-        ensures ready { IfOk result (λ d. IsReady d.mover) }
-        ensures machine { IfOk result (λ d. d.mover.machine ≡ machine.entry) }
-        ensures given { IfOk result (λ d. (d.mover.script ≡ script) × (d.mover.lines ≡ lines) × (d.mover.limit ≡ limit)) }
-        ensures marks { IfOk result (λ d. (d.breakpoints ≡ []) × (d.mover.recent ≡ []) × (d.has_failed ≡ false)) }
-        ensures page { IfOk result (λ d. d.mover.page ≡ []) }
+        ensures agree { IfOk result (λ d. AllAgree (λ l. l.ids) (λ l. (⟦<dyn Native as Native>⟧ l.native.vtable).owed l.native.value) d.runner.machine.natives.slots.items) }
+        ensures ready { IfOk result (λ d. IsReady d.runner) }
+        ensures machine { IfOk result (λ d. d.runner.machine ≡ machine.entry) }
+        ensures given { IfOk result (λ d. (d.runner.script ≡ script) × (d.runner.lines ≡ lines) × (d.runner.limit ≡ limit)) }
+        ensures marks { IfOk result (λ d. (d.breakpoints ≡ []) × (d.runner.recent ≡ []) × (d.has_failed ≡ false)) }
+        ensures page { IfOk result (λ d. d.runner.page ≡ []) }
         ensures names { IfOk result (λ d. d.names ≡ names.entry) }
         ensures err { IfErr result (λ fault. fault ≡ OutOfMemory) }
     {
-        match Recent::new(alloc) {
+        match History::new(alloc) {
             Ok(recent) => {
                 let page = Page::new();
-                let mover = Mover {
+                let runner = Runner {
                     machine,
                     script,
                     limit,
@@ -71,7 +71,7 @@ impl<'a> Debugger<'a> {
                     recent,
                 };
                 Ok(Debugger {
-                    mover,
+                    runner,
                     names,
                     breakpoints: Breakpoints::new(),
                     has_failed: false,
@@ -91,7 +91,7 @@ impl<'a> Debugger<'a> {
     fn has_ended(&self) -> bool
         ensures { result ≡ has_ended self.now }
     {
-        matches!(self.mover.machine.core.progress(), Progress::Ended(_))
+        matches!(self.runner.machine.core.progress(), Progress::Ended(_))
     }
 
     /// Whether no command may go on: the run has ended, or what was told could not be written.
@@ -102,29 +102,29 @@ impl<'a> Debugger<'a> {
     }
 
     /// Keeps that what was told could not be written.
-    pub(crate) fn kept(&mut self, told: Result<(), DebugFault>) -> Result<(), DebugFault>
-        ensures answer { result ≡ told }
-        ensures ok { IfOk told (λ _. self.new ≡ self.old) }
-        ensures err { IfErr told (λ _. self.new ≡ record self.old { has_failed = true }) }
+    pub(crate) fn kept(&mut self, reported: Result<(), DebugFault>) -> Result<(), DebugFault>
+        ensures answer { result ≡ reported }
+        ensures ok { IfOk reported (λ _. self.new ≡ self.old) }
+        ensures err { IfErr reported (λ _. self.new ≡ record self.old { has_failed = true }) }
     {
-        if told.is_err() {
+        if reported.is_err() {
             self.has_failed = true;
         }
-        told
+        reported
     }
 
     /// Tells where moves have led, if all that they wrote is out.
     fn arrived<W: Sink>(&mut self, went: Option<Progress>, out: &mut W) -> Result<(), DebugFault>
-        requires stands { Stands self.old.mover.machine }
-        ensures mover { self.new.mover ≡ self.old.mover }
+        requires stands { Stands self.old.runner.machine }
+        ensures runner { self.new.runner ≡ self.old.runner }
         ensures none { IfNone went (GivesUp self.old self.new (record { before = W.out out.old; now = W.out out.new; failed = W.failed out.new }) result) }
         ensures failed { IfNone went (W.failed out.new ≡ W.failed out.old) }
         ensures some { IfSome went (λ _. Shows self.old self.new (record { before = W.out out.old; now = W.out out.new; failed = W.failed out.new }) result) }
     {
         match went {
             Some(_) => {
-                let told = tell_place(&self.mover.machine, &self.names, out);
-                self.kept(told)
+                let reported = report_place(&self.runner.machine, &self.names, out);
+                self.kept(reported)
             }
             None => self.kept(Err(DebugFault::WriteFault)),
         }
@@ -132,56 +132,60 @@ impl<'a> Debugger<'a> {
 
     /// Goes on by so many steps, from 1 to 1,000,000, or to the end of the run.
     pub fn step<W: Sink>(&mut self, steps: u32, out: &mut W) -> Result<(), DebugFault>
-        requires agree { AllAgree (λ l. l.ids) (λ l. (⟦<dyn Native as Native>⟧ l.native.vtable).owed l.native.value) self.old.mover.machine.natives.slots.items }
-        requires ready { IsReady self.old.mover }
-        ensures agree { AllAgree (λ l. l.ids) (λ l. (⟦<dyn Native as Native>⟧ l.native.vtable).owed l.native.value) self.new.mover.machine.natives.slots.items }
-        ensures keeps { Keeps self.old.mover self.new.mover }
+        requires agree { AllAgree (λ l. l.ids) (λ l. (⟦<dyn Native as Native>⟧ l.native.vtable).owed l.native.value) self.old.runner.machine.natives.slots.items }
+        requires ready { IsReady self.old.runner }
+        ensures agree { AllAgree (λ l. l.ids) (λ l. (⟦<dyn Native as Native>⟧ l.native.vtable).owed l.native.value) self.new.runner.machine.natives.slots.items }
+        ensures keeps { KeepsRunner self.old.runner self.new.runner }
         ensures answer { Steps steps self.old self.new (record { before = W.out out.old; now = W.out out.new; failed = W.failed out.new }) result }
     {
         if self.has_failed {
             return Err(DebugFault::Ended);
         }
-        if steps == 0 || steps > MOST_STEPS {
+        if steps == 0 || steps > MAX_STEPS {
             return Err(DebugFault::BadCommand);
         }
-        self.go_by(Course::Steps(steps), out)
+        self.run_until(RunGoal::Steps(steps), out)
     }
 
     /// Goes on so far, and tells where that has led.
-    pub(crate) fn go_by<W: Sink>(&mut self, course: Course, out: &mut W) -> Result<(), DebugFault>
-        requires agree { AllAgree (λ l. l.ids) (λ l. (⟦<dyn Native as Native>⟧ l.native.vtable).owed l.native.value) self.old.mover.machine.natives.slots.items }
-        requires ready { IsReady self.old.mover }
-        ensures agree { AllAgree (λ l. l.ids) (λ l. (⟦<dyn Native as Native>⟧ l.native.vtable).owed l.native.value) self.new.mover.machine.natives.slots.items }
-        ensures keeps { Keeps self.old.mover self.new.mover }
+    pub(crate) fn run_until<W: Sink>(
+        &mut self,
+        course: RunGoal,
+        out: &mut W,
+    ) -> Result<(), DebugFault>
+        requires agree { AllAgree (λ l. l.ids) (λ l. (⟦<dyn Native as Native>⟧ l.native.vtable).owed l.native.value) self.old.runner.machine.natives.slots.items }
+        requires ready { IsReady self.old.runner }
+        ensures agree { AllAgree (λ l. l.ids) (λ l. (⟦<dyn Native as Native>⟧ l.native.vtable).owed l.native.value) self.new.runner.machine.natives.slots.items }
+        ensures keeps { KeepsRunner self.old.runner self.new.runner }
         ensures answer { Goes (goes_of course) self.old self.new (record { before = W.out out.old; now = W.out out.new; failed = W.failed out.new }) result }
     {
         if self.is_done() {
             return Err(DebugFault::Ended);
         }
-        let went = go(&mut self.mover, course, &self.breakpoints, out);
+        let went = go(&mut self.runner, course, &self.breakpoints, out);
         self.arrived(went, out)
     }
 
     /// Goes on to the end of the dispatch at hand, or of the next, or to the end of the run.
     pub fn turn<W: Sink>(&mut self, out: &mut W) -> Result<(), DebugFault>
-        requires agree { AllAgree (λ l. l.ids) (λ l. (⟦<dyn Native as Native>⟧ l.native.vtable).owed l.native.value) self.old.mover.machine.natives.slots.items }
-        requires ready { IsReady self.old.mover }
-        ensures agree { AllAgree (λ l. l.ids) (λ l. (⟦<dyn Native as Native>⟧ l.native.vtable).owed l.native.value) self.new.mover.machine.natives.slots.items }
-        ensures keeps { Keeps self.old.mover self.new.mover }
+        requires agree { AllAgree (λ l. l.ids) (λ l. (⟦<dyn Native as Native>⟧ l.native.vtable).owed l.native.value) self.old.runner.machine.natives.slots.items }
+        requires ready { IsReady self.old.runner }
+        ensures agree { AllAgree (λ l. l.ids) (λ l. (⟦<dyn Native as Native>⟧ l.native.vtable).owed l.native.value) self.new.runner.machine.natives.slots.items }
+        ensures keeps { KeepsRunner self.old.runner self.new.runner }
         ensures answer { Turns self.old self.new (record { before = W.out out.old; now = W.out out.new; failed = W.failed out.new }) result }
     {
-        self.go_by(Course::EndOfDispatch, out)
+        self.run_until(RunGoal::EndOfDispatch, out)
     }
 
     /// Goes on until an instruction with a breakpoint is next, but for where it begins, or to the end of the run.
     pub fn go<W: Sink>(&mut self, out: &mut W) -> Result<(), DebugFault>
-        requires agree { AllAgree (λ l. l.ids) (λ l. (⟦<dyn Native as Native>⟧ l.native.vtable).owed l.native.value) self.old.mover.machine.natives.slots.items }
-        requires ready { IsReady self.old.mover }
-        ensures agree { AllAgree (λ l. l.ids) (λ l. (⟦<dyn Native as Native>⟧ l.native.vtable).owed l.native.value) self.new.mover.machine.natives.slots.items }
-        ensures keeps { Keeps self.old.mover self.new.mover }
+        requires agree { AllAgree (λ l. l.ids) (λ l. (⟦<dyn Native as Native>⟧ l.native.vtable).owed l.native.value) self.old.runner.machine.natives.slots.items }
+        requires ready { IsReady self.old.runner }
+        ensures agree { AllAgree (λ l. l.ids) (λ l. (⟦<dyn Native as Native>⟧ l.native.vtable).owed l.native.value) self.new.runner.machine.natives.slots.items }
+        ensures keeps { KeepsRunner self.old.runner self.new.runner }
         ensures answer { Runs self.old self.new (record { before = W.out out.old; now = W.out out.new; failed = W.failed out.new }) result }
     {
-        self.go_by(Course::Breakpoint, out)
+        self.run_until(RunGoal::Breakpoint, out)
     }
 
     /// Sets a breakpoint at the place that two numbers name. One that is set already counts once.
@@ -191,10 +195,10 @@ impl<'a> Debugger<'a> {
         place: Number,
         out: &mut W,
     ) -> Result<(), DebugFault>
-        requires agree { AllAgree (λ l. l.ids) (λ l. (⟦<dyn Native as Native>⟧ l.native.vtable).owed l.native.value) self.old.mover.machine.natives.slots.items }
-        requires ready { IsReady self.old.mover }
-        ensures agree { AllAgree (λ l. l.ids) (λ l. (⟦<dyn Native as Native>⟧ l.native.vtable).owed l.native.value) self.new.mover.machine.natives.slots.items }
-        ensures keeps { Keeps self.old.mover self.new.mover }
+        requires agree { AllAgree (λ l. l.ids) (λ l. (⟦<dyn Native as Native>⟧ l.native.vtable).owed l.native.value) self.old.runner.machine.natives.slots.items }
+        requires ready { IsReady self.old.runner }
+        ensures agree { AllAgree (λ l. l.ids) (λ l. (⟦<dyn Native as Native>⟧ l.native.vtable).owed l.native.value) self.new.runner.machine.natives.slots.items }
+        ensures keeps { KeepsRunner self.old.runner self.new.runner }
         ensures answer { Sets method place self.old self.new (record { before = W.out out.old; now = W.out out.new; failed = W.failed out.new }) result }
     {
         let spot = self.spot(method, place)?;
@@ -202,13 +206,13 @@ impl<'a> Debugger<'a> {
     }
 
     /// Sets a breakpoint.
-    fn set<W: Sink>(&mut self, spot: Spot, out: &mut W) -> Result<(), DebugFault>
+    fn set<W: Sink>(&mut self, spot: CodeLocation, out: &mut W) -> Result<(), DebugFault>
         ensures { SetsAt spot self.old self.new (record { before = W.out out.old; now = W.out out.new; failed = W.failed out.new }) result }
     {
         if !self.breakpoints.set(spot) {
             return Err(DebugFault::NoSuch);
         }
-        let told = tell(Answer::Done, out);
-        self.kept(told)
+        let reported = report(Answer::Done, out);
+        self.kept(reported)
     }
 }

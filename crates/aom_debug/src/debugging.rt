@@ -3,24 +3,24 @@ ghost use Rattle.std.specs.Prelude.{ℕ, ◌≡◌, Err, IfErr, IfOk, List, Ok, 
 ghost use Rattle.aom_natives.specs.Owed.{OweNothing};
 ghost use Rattle.aom_natives.specs.Slots.{AllAgree};
 ghost use Rattle.aom_semantics.specs.World.{boot_state};
-ghost use Rattle.aom_run.specs.Calls.{StandsFor, natives_of};
+ghost use Rattle.aom_run.specs.Calls.{RefinesWithNatives, natives_of};
 ghost use Rattle.aom_script.specs.Script.{IsTimely, denoted};
-ghost use Rattle.aom_debug.specs.Movers.{IsReady};
-ghost use Rattle.aom_commands.specs.Acceptable.{IsSpelled};
+ghost use Rattle.aom_debug.specs.Runners.{IsReady};
+ghost use Rattle.aom_commands.specs.Acceptable.{IsSerialized};
 ghost use Rattle.aom_commands.specs.Headline.{RefusesBoot};
 ghost use Rattle.aom_commands.specs.declared.faults.Fault.TheVariants.{Memory};
 ghost use Rattle.aom_commands.specs.declared.status.ExitStatus.TheVariants.{Done};
-ghost use Rattle.aom_commands.specs.Untold.{Untold};
+ghost use Rattle.aom_commands.specs.Unreported.{Unreported};
 ghost use Rattle.aom_debug.specs.Answers.{DebugAnswers, DebugAnswersBy};
 ghost use Rattle.aom_debug.specs.Beginning.{IsBegun};
 
-use crate::conversing::converse;
+use crate::session_loop::run_session;
 use crate::{Debugger, Reader, Sink};
 use aom_budget::Accepted;
-use aom_commands::{ExitStatus, Fault, accept_bytes, line_buffer, tell};
-use aom_debug_names::SourceNames;
+use aom_commands::{ExitStatus, Fault, accept_bytes, line_buffer, report};
+use aom_debug_symbols::SourceNames;
 use aom_natives::Native;
-use aom_run::Machine;
+use aom_run::HostedMachine;
 use aom_script::{Script, read_script};
 use std::alloc::Global;
 
@@ -52,7 +52,7 @@ pub fn debug_bytes<R: Reader, W: Sink, E: Sink>(
         out,
     ) {
         Ok(status) => status,
-        Err(fault) => tell(&fault, errors),
+        Err(fault) => report(&fault, errors),
     }
 }
 
@@ -69,7 +69,7 @@ pub fn try_debug<R: Reader, W: Sink>(
     out: &mut W,
 ) -> Result<ExitStatus, Fault>
     requires owed { OweNothing (λ b. (⟦<dyn Native as Native>⟧ b.vtable).owed b.value) boxes.items }
-    ensures { Untold (DebugAnswersBy names.entry image.now script.now limit (length boxes.items) reads (record { before = R.given reader.old; now = R.given reader.new; ended = R.ended reader.new; had_failed = R.failed reader.old; failed = R.failed reader.new }) (record { before = W.out out.old; now = W.out out.new; failed = W.failed out.new })) result }
+    ensures { Unreported (DebugAnswersBy names.entry image.now script.now limit (length boxes.items) reads (record { before = R.given reader.old; now = R.given reader.new; ended = R.ended reader.new; had_failed = R.failed reader.old; failed = R.failed reader.new }) (record { before = W.out out.old; now = W.out out.new; failed = W.failed out.new })) result }
 {
     match accept_bytes(alloc, image) {
         Ok(accepted) => debug_text(
@@ -92,7 +92,7 @@ fn debug_text<R: Reader, W: Sink>(
     out: &mut W,
 ) -> Result<ExitStatus, Fault>
     requires owed { OweNothing (λ b. (⟦<dyn Native as Native>⟧ b.vtable).owed b.value) boxes.items }
-    ensures { (bytes : List ℕ) → IsSpelled bytes accepted.now → Untold (DebugAnswersBy names.entry bytes text.now limit (length boxes.items) reads (record { before = R.given reader.old; now = R.given reader.new; ended = R.ended reader.new; had_failed = R.failed reader.old; failed = R.failed reader.new }) (record { before = W.out out.old; now = W.out out.new; failed = W.failed out.new })) result }
+    ensures { (bytes : List ℕ) → IsSerialized bytes accepted.now → Unreported (DebugAnswersBy names.entry bytes text.now limit (length boxes.items) reads (record { before = R.given reader.old; now = R.given reader.new; ended = R.ended reader.new; had_failed = R.failed reader.old; failed = R.failed reader.new }) (record { before = W.out out.old; now = W.out out.new; failed = W.failed out.new })) result }
 {
     accepted.facts();
     match read_script(alloc, text) {
@@ -117,25 +117,25 @@ fn debug_script<R: Reader, W: Sink>(
 ) -> Result<ExitStatus, Fault>
     requires owed { OweNothing (λ b. (⟦<dyn Native as Native>⟧ b.vtable).owed b.value) boxes.items }
     requires timely { IsTimely script.timed }
-    ensures { (bytes text : List ℕ) → IsSpelled bytes accepted.now → denoted text ≡ Ok script → Untold (DebugAnswersBy names.entry bytes text limit (length boxes.items) reads (record { before = R.given reader.old; now = R.given reader.new; ended = R.ended reader.new; had_failed = R.failed reader.old; failed = R.failed reader.new }) (record { before = W.out out.old; now = W.out out.new; failed = W.failed out.new })) result }
+    ensures { (bytes text : List ℕ) → IsSerialized bytes accepted.now → denoted text ≡ Ok script → Unreported (DebugAnswersBy names.entry bytes text limit (length boxes.items) reads (record { before = R.given reader.old; now = R.given reader.new; ended = R.ended reader.new; had_failed = R.failed reader.old; failed = R.failed reader.new }) (record { before = W.out out.old; now = W.out out.new; failed = W.failed out.new })) result }
 {
     accepted.facts();
     match begin(alloc, accepted, script, limit, names, boxes) {
         Ok(mut debugger) => {
-            let told = converse(&mut debugger, reader, reads, out);
+            let reported = run_session(&mut debugger, reader, reads, out);
             drop(debugger);
-            done(told)
+            done(reported)
         }
         Err(fault) => Err(fault),
     }
 }
 
 /// The status of a session that was held whole.
-fn done(told: Result<(), Fault>) -> Result<ExitStatus, Fault>
-    ensures ok { IfOk told (λ _. result ≡ Ok Done) }
-    ensures err { IfErr told (λ fault. result ≡ Err fault) }
+fn done(reported: Result<(), Fault>) -> Result<ExitStatus, Fault>
+    ensures ok { IfOk reported (λ _. result ≡ Ok Done) }
+    ensures err { IfErr reported (λ fault. result ≡ Err fault) }
 {
-    match told {
+    match reported {
         Ok(()) => Ok(ExitStatus::Done),
         Err(fault) => Err(fault),
     }
@@ -152,13 +152,13 @@ fn begin<'a>(
 ) -> Result<Debugger<'a>, Fault>
     requires owed { OweNothing (λ b. (⟦<dyn Native as Native>⟧ b.vtable).owed b.value) boxes.items }
     requires timely { IsTimely script.timed }
-    ensures agree { IfOk result (λ d. AllAgree (λ l. l.ids) (λ l. (⟦<dyn Native as Native>⟧ l.native.vtable).owed l.native.value) d.mover.machine.natives.slots.items) }
-    ensures ready { IfOk result (λ d. IsReady d.mover) }
+    ensures agree { IfOk result (λ d. AllAgree (λ l. l.ids) (λ l. (⟦<dyn Native as Native>⟧ l.native.vtable).owed l.native.value) d.runner.machine.natives.slots.items) }
+    ensures ready { IfOk result (λ d. IsReady d.runner) }
     ensures begun { IfOk result (λ d. IsBegun names.entry accepted.now script limit (length boxes.items) d) }
-    ensures boxes { IfOk result (λ d. map (option_map (λ l. l.native)) d.mover.machine.natives.slots.items ≡ map (λ b. Some b) boxes.items) }
+    ensures boxes { IfOk result (λ d. map (option_map (λ l. l.native)) d.runner.machine.natives.slots.items ≡ map (λ b. Some b) boxes.items) }
     ensures err { IfErr result (λ fault. RefusesBoot accepted.now (length boxes.items) fault) }
 {
-    match Machine::boot(alloc, accepted, boxes) {
+    match HostedMachine::boot(alloc, accepted, boxes) {
         Ok(machine) => begun(alloc, accepted, machine, script, limit, names),
         Err((fault, _boxes)) => Err(Fault::from(fault)),
     }
@@ -168,19 +168,19 @@ fn begin<'a>(
 fn begun<'a>(
     alloc: Global,
     accepted: &Accepted,
-    machine: Machine<'a>,
+    machine: HostedMachine<'a>,
     script: Script,
     limit: u32,
     names: SourceNames<'a>,
 ) -> Result<Debugger<'a>, Fault>
     requires agree { AllAgree (λ l. l.ids) (λ l. (⟦<dyn Native as Native>⟧ l.native.vtable).owed l.native.value) machine.natives.slots.items }
     requires image { machine.core.image ≡ accepted.now }
-    requires stands { StandsFor machine (boot_state accepted.now) }
+    requires stands { RefinesWithNatives machine (boot_state accepted.now) }
     requires timely { IsTimely script.timed }
-    ensures agree { IfOk result (λ d. AllAgree (λ l. l.ids) (λ l. (⟦<dyn Native as Native>⟧ l.native.vtable).owed l.native.value) d.mover.machine.natives.slots.items) }
-    ensures ready { IfOk result (λ d. IsReady d.mover) }
+    ensures agree { IfOk result (λ d. AllAgree (λ l. l.ids) (λ l. (⟦<dyn Native as Native>⟧ l.native.vtable).owed l.native.value) d.runner.machine.natives.slots.items) }
+    ensures ready { IfOk result (λ d. IsReady d.runner) }
     ensures begun { IfOk result (λ d. IsBegun names.entry accepted.now script limit (natives_of machine.entry) d) }
-    ensures machine { IfOk result (λ d. d.mover.machine ≡ machine.entry) }
+    ensures machine { IfOk result (λ d. d.runner.machine ≡ machine.entry) }
     ensures err { IfErr result (λ fault. fault ≡ Memory) }
 {
     match line_buffer(alloc, accepted, &script) {

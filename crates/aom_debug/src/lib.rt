@@ -1,7 +1,7 @@
 //! The program's debugger: over a machine, and over the bytes of files, a reader of commands and two sinks.
 //!
 //! `Debugger::command` does what a line of commands says, and each command is a call of its own name too. A call promises what it did to each state that
-//! the machine stood for and what went out (`specs/Debugging.antt`): the moves that the command asks for by `aom_debug_moves`, their
+//! the machine stood for and what went out (`specs/Debugging.antt`): the moves that the command asks for by `aom_debug_stepping`, their
 //! lines and then where they lead; or what `aom_debug_views` tells, and nothing changed; or that it is refused, and nothing was
 //! changed or written. `held_at` answers what a place owns as a value. Nothing of this takes memory, by signature.
 //!
@@ -12,7 +12,6 @@
 #![tactic(auto)]
 
 mod commanding;
-mod conversing;
 mod debugger;
 mod debugging;
 mod holding;
@@ -22,15 +21,16 @@ mod looks;
 mod marking;
 mod onward;
 mod reaching;
+mod session_loop;
 mod showing;
 mod unbreaking;
 
-pub use aom_debug_moves::{Awaited, Mover, Sink};
-pub use aom_debug_names::SourceNames;
-pub use aom_debug_views::{Holding, Owner, tell};
+pub use aom_debug_stepping::{Awaited, Runner, Sink};
+pub use aom_debug_symbols::SourceNames;
+pub use aom_debug_views::{Holding, Owner, report};
 pub use aom_transcript::Reader;
 pub use debugger::Debugger;
 pub use debugging::{debug_bytes, try_debug};
 pub use laws::paths_are_read_back;
-pub use looking::Look;
-pub use showing::tell_place;
+pub use looking::Inspection;
+pub use showing::report_place;

@@ -1,21 +1,21 @@
 //! Looks, which change nothing.
 ghost use Rattle.std.specs.Prelude.{◌≡◌, IfErr, IfOk};
 ghost use Rattle.aom_natives.specs.Slots.{AllAgree};
-ghost use Rattle.aom_debug_moves.specs.Movers.{IsReady, Keeps};
+ghost use Rattle.aom_debug_stepping.specs.Runners.{IsReady, KeepsRunner};
 ghost use Rattle.aom_debug.specs.Debugging.{Looks, Seen, SeenPart, Sees};
 
 use crate::Debugger;
 use crate::showing::{show_cells, show_frames, show_owners};
-use aom_debug_moves::Sink;
+use aom_debug_protocol::{DebugFault, help_text};
+use aom_debug_stepping::Sink;
 use aom_debug_views::{
-    send, tell_actives, tell_breaks, tell_cleanup, tell_clock, tell_recent, tell_timers,
+    report_actives, report_breaks, report_cleanup, report_clock, report_recent, report_timers, send,
 };
-use aom_debug_words::{DebugFault, help_text};
 use aom_natives::Native;
 
 /// What a debugger shows of a machine.
 #[derive(Clone, Copy, PartialEq, Eq)]
-pub enum Look {
+pub enum Inspection {
     /// How many cells live, and how many of each class that has any.
     Cells,
     /// What each place owns.
@@ -25,7 +25,7 @@ pub enum Look {
     /// The enlisted objects, in the order of choice.
     Actives,
     /// The latest instructions, the oldest first.
-    Recent,
+    History,
     /// The breakpoints, in the order in which they were set.
     Breaks,
     /// The time.
@@ -40,36 +40,44 @@ pub enum Look {
 
 impl<'a> Debugger<'a> {
     /// Tells it.
-    fn show<W: Sink>(&self, look: Look, out: &mut W) -> Result<(), DebugFault>
-        ensures ok { IfOk result (λ _. Seen (Sees look) self.now (W.out out.old) (W.out out.new)) }
-        ensures err { IfErr result (λ fault. SeenPart (Sees look) self.now fault (W.failed out.new) (W.out out.old) (W.out out.new)) }
+    fn show<W: Sink>(&self, inspect: Inspection, out: &mut W) -> Result<(), DebugFault>
+        ensures ok { IfOk result (λ _. Seen (Sees inspect) self.now (W.out out.old) (W.out out.new)) }
+        ensures err { IfErr result (λ fault. SeenPart (Sees inspect) self.now fault (W.failed out.new) (W.out out.old) (W.out out.new)) }
     {
-        match look {
-            Look::Cells => show_cells(&self.mover.machine, &self.names, out),
-            Look::Owners => show_owners(&self.mover.machine, &self.names, out),
-            Look::Cleanup => tell_cleanup(self.mover.machine.core.parts(), &self.names, out),
-            Look::Actives => tell_actives(self.mover.machine.core.parts(), &self.names, out),
-            Look::Recent => tell_recent(&self.mover.recent, &self.names, out),
-            Look::Breaks => tell_breaks(&self.breakpoints, &self.names, out),
-            Look::Clock => tell_clock(self.mover.machine.core.parts(), out),
-            Look::Frames => show_frames(&self.mover.machine, &self.names, out),
-            Look::Help => send(help_text(), out),
-            Look::Timers => tell_timers(self.mover.machine.core.parts(), &self.names, out),
+        match inspect {
+            Inspection::Cells => show_cells(&self.runner.machine, &self.names, out),
+            Inspection::Owners => show_owners(&self.runner.machine, &self.names, out),
+            Inspection::Cleanup => report_cleanup(
+                self.runner.machine.core.parts(),
+                &self.names,
+                out,
+            ),
+            Inspection::Actives => report_actives(
+                self.runner.machine.core.parts(),
+                &self.names,
+                out,
+            ),
+            Inspection::History => report_recent(&self.runner.recent, &self.names, out),
+            Inspection::Breaks => report_breaks(&self.breakpoints, &self.names, out),
+            Inspection::Clock => report_clock(self.runner.machine.core.parts(), out),
+            Inspection::Frames => show_frames(&self.runner.machine, &self.names, out),
+            Inspection::Help => send(help_text(), out),
+            Inspection::Timers => report_timers(self.runner.machine.core.parts(), &self.names, out),
         }
     }
 
     /// Tells it, where all that was told before is out.
-    pub fn look<W: Sink>(&mut self, look: Look, out: &mut W) -> Result<(), DebugFault>
-        requires agree { AllAgree (λ l. l.ids) (λ l. (⟦<dyn Native as Native>⟧ l.native.vtable).owed l.native.value) self.old.mover.machine.natives.slots.items }
-        requires ready { IsReady self.old.mover }
-        ensures agree { AllAgree (λ l. l.ids) (λ l. (⟦<dyn Native as Native>⟧ l.native.vtable).owed l.native.value) self.new.mover.machine.natives.slots.items }
-        ensures keeps { Keeps self.old.mover self.new.mover }
-        ensures answer { Looks (Sees look) self.old self.new (record { before = W.out out.old; now = W.out out.new; failed = W.failed out.new }) result }
+    pub fn inspect<W: Sink>(&mut self, inspect: Inspection, out: &mut W) -> Result<(), DebugFault>
+        requires agree { AllAgree (λ l. l.ids) (λ l. (⟦<dyn Native as Native>⟧ l.native.vtable).owed l.native.value) self.old.runner.machine.natives.slots.items }
+        requires ready { IsReady self.old.runner }
+        ensures agree { AllAgree (λ l. l.ids) (λ l. (⟦<dyn Native as Native>⟧ l.native.vtable).owed l.native.value) self.new.runner.machine.natives.slots.items }
+        ensures keeps { KeepsRunner self.old.runner self.new.runner }
+        ensures answer { Looks (Sees inspect) self.old self.new (record { before = W.out out.old; now = W.out out.new; failed = W.failed out.new }) result }
     {
         if self.has_failed {
             return Err(DebugFault::Ended);
         }
-        let told = self.show(look, out);
-        self.kept(told)
+        let reported = self.show(inspect, out);
+        self.kept(reported)
     }
 }

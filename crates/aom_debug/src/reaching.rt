@@ -4,24 +4,24 @@ ghost use Rattle.aom_cells.specs.Heap.{Lives};
 ghost use Rattle.aom_natives.specs.Slots.{AllAgree};
 ghost use Rattle.aom_roles.specs.Things.{words_of};
 ghost use Rattle.aom_semantics.specs.Places.{service_of};
-ghost use Rattle.aom_debug_moves.specs.Movers.{IsReady, Keeps};
+ghost use Rattle.aom_debug_stepping.specs.Runners.{IsReady, KeepsRunner};
 ghost use Rattle.aom_debug_paths.specs.Paths.{waiting_lines, word_lines};
-ghost use Rattle.aom_debug_views.specs.Telling.{Tells, TellsPart, answers_text};
+ghost use Rattle.aom_debug_views.specs.Reporting.{Reports, ReportsPart, answers_text};
 ghost use Rattle.aom_debug.specs.Debugging.{Finds, FindsNone, LacksQueue, LacksWords, LooksAt, SeesQueue, SeesWords};
 
 use crate::Debugger;
-use aom_debug_moves::{Machine, Sink};
-use aom_debug_paths::{Found, object_at, tell_queue, tell_words};
-use aom_debug_words::{DebugFault, Path};
+use aom_debug_paths::{Found, object_at, report_queue, report_words};
+use aom_debug_protocol::{DebugFault, Path};
+use aom_debug_stepping::{HostedMachine, Sink};
 use aom_natives::Native;
 
 /// Writes its words.
-fn show_words<W: Sink>(machine: &Machine, found: Found, out: &mut W) -> Result<(), DebugFault>
+fn show_words<W: Sink>(machine: &HostedMachine, found: Found, out: &mut W) -> Result<(), DebugFault>
     requires { Lives machine.now.core.parts.cells found.cell }
-    ensures ok { IfOk result (λ _. Tells machine.now.core (λ s. answers_text (word_lines s.cells found.cell (words_of machine.now.core.image found.class))) (W.out out.old) (W.out out.new)) }
-    ensures err { IfErr result (λ fault. TellsPart machine.now.core (λ s. answers_text (word_lines s.cells found.cell (words_of machine.now.core.image found.class))) fault (W.failed out.new) (W.out out.old) (W.out out.new)) }
+    ensures ok { IfOk result (λ _. Reports machine.now.core (λ s. answers_text (word_lines s.cells found.cell (words_of machine.now.core.image found.class))) (W.out out.old) (W.out out.new)) }
+    ensures err { IfErr result (λ fault. ReportsPart machine.now.core (λ s. answers_text (word_lines s.cells found.cell (words_of machine.now.core.image found.class))) fault (W.failed out.new) (W.out out.old) (W.out out.new)) }
 {
-    tell_words(
+    report_words(
         machine.core.parts(),
         machine.core.accepted().linked(),
         found,
@@ -30,24 +30,24 @@ fn show_words<W: Sink>(machine: &Machine, found: Found, out: &mut W) -> Result<(
 }
 
 /// Writes what waits at it.
-fn show_queue<W: Sink>(machine: &Machine, found: Found, out: &mut W) -> Result<(), DebugFault>
+fn show_queue<W: Sink>(machine: &HostedMachine, found: Found, out: &mut W) -> Result<(), DebugFault>
     requires { Lives machine.now.core.parts.cells found.cell }
-    ensures ok { IfOk result (λ _. Tells machine.now.core (λ s. answers_text (waiting_lines (service_of s.cells found.cell).queue)) (W.out out.old) (W.out out.new)) }
-    ensures err { IfErr result (λ fault. TellsPart machine.now.core (λ s. answers_text (waiting_lines (service_of s.cells found.cell).queue)) fault (W.failed out.new) (W.out out.old) (W.out out.new)) }
+    ensures ok { IfOk result (λ _. Reports machine.now.core (λ s. answers_text (waiting_lines (service_of s.cells found.cell).queue)) (W.out out.old) (W.out out.new)) }
+    ensures err { IfErr result (λ fault. ReportsPart machine.now.core (λ s. answers_text (waiting_lines (service_of s.cells found.cell).queue)) fault (W.failed out.new) (W.out out.old) (W.out out.new)) }
 {
-    tell_queue(machine.core.parts(), found, out)
+    report_queue(machine.core.parts(), found, out)
 }
 
 impl<'a> Debugger<'a> {
     /// The object that is owned at a path, where all that was told before is out.
     fn found(&self, path: &Path) -> Result<Found, DebugFault>
-        ensures ok { IfOk result (λ f. (self.now.has_failed ≡ false) × Lives self.now.mover.machine.core.parts.cells f.cell × Finds path.now self.now (Some f)) }
+        ensures ok { IfOk result (λ f. (self.now.has_failed ≡ false) × Lives self.now.runner.machine.core.parts.cells f.cell × Finds path.now self.now (Some f)) }
         ensures err { IfErr result (λ fault. FindsNone (Finds path.now self.now None) self.now fault) }
     {
         if self.has_failed {
             return Err(DebugFault::Ended);
         }
-        let core = &self.mover.machine.core;
+        let core = &self.runner.machine.core;
         match object_at(core.parts(), core.accepted(), path) {
             Some(found) => Ok(found),
             None => Err(DebugFault::NoSuch),
@@ -56,27 +56,27 @@ impl<'a> Debugger<'a> {
 
     /// The words of the object that is owned at a path.
     pub fn words_at<W: Sink>(&mut self, path: Path, out: &mut W) -> Result<(), DebugFault>
-        requires agree { AllAgree (λ l. l.ids) (λ l. (⟦<dyn Native as Native>⟧ l.native.vtable).owed l.native.value) self.old.mover.machine.natives.slots.items }
-        requires ready { IsReady self.old.mover }
-        ensures agree { AllAgree (λ l. l.ids) (λ l. (⟦<dyn Native as Native>⟧ l.native.vtable).owed l.native.value) self.new.mover.machine.natives.slots.items }
-        ensures keeps { Keeps self.old.mover self.new.mover }
+        requires agree { AllAgree (λ l. l.ids) (λ l. (⟦<dyn Native as Native>⟧ l.native.vtable).owed l.native.value) self.old.runner.machine.natives.slots.items }
+        requires ready { IsReady self.old.runner }
+        ensures agree { AllAgree (λ l. l.ids) (λ l. (⟦<dyn Native as Native>⟧ l.native.vtable).owed l.native.value) self.new.runner.machine.natives.slots.items }
+        ensures keeps { KeepsRunner self.old.runner self.new.runner }
         ensures answer { LooksAt (SeesWords path) (LacksWords path) self.old self.new (record { before = W.out out.old; now = W.out out.new; failed = W.failed out.new }) result }
     {
         let found = self.found(&path)?;
-        let told = show_words(&self.mover.machine, found, out);
-        self.kept(told)
+        let reported = show_words(&self.runner.machine, found, out);
+        self.kept(reported)
     }
 
     /// What waits at the object that is owned at a path, the first first.
     pub fn queue_at<W: Sink>(&mut self, path: Path, out: &mut W) -> Result<(), DebugFault>
-        requires agree { AllAgree (λ l. l.ids) (λ l. (⟦<dyn Native as Native>⟧ l.native.vtable).owed l.native.value) self.old.mover.machine.natives.slots.items }
-        requires ready { IsReady self.old.mover }
-        ensures agree { AllAgree (λ l. l.ids) (λ l. (⟦<dyn Native as Native>⟧ l.native.vtable).owed l.native.value) self.new.mover.machine.natives.slots.items }
-        ensures keeps { Keeps self.old.mover self.new.mover }
+        requires agree { AllAgree (λ l. l.ids) (λ l. (⟦<dyn Native as Native>⟧ l.native.vtable).owed l.native.value) self.old.runner.machine.natives.slots.items }
+        requires ready { IsReady self.old.runner }
+        ensures agree { AllAgree (λ l. l.ids) (λ l. (⟦<dyn Native as Native>⟧ l.native.vtable).owed l.native.value) self.new.runner.machine.natives.slots.items }
+        ensures keeps { KeepsRunner self.old.runner self.new.runner }
         ensures answer { LooksAt (SeesQueue path) (LacksQueue path) self.old self.new (record { before = W.out out.old; now = W.out out.new; failed = W.failed out.new }) result }
     {
         let found = self.found(&path)?;
-        let told = show_queue(&self.mover.machine, found, out);
-        self.kept(told)
+        let reported = show_queue(&self.runner.machine, found, out);
+        self.kept(reported)
     }
 }

@@ -3,11 +3,11 @@ use Rattle.std.proofs.Common.{◌≡◌, ◌∙◌, ◌≤◌, ℕ, zero, suc, B
 use Rattle.std.proofs.lemmas.Bool.{eqb-false, eqb-true}
 use Rattle.std.proofs.lemmas.Option.{none-some}
 use Rattle.aom_image.specs.Image.{Image}
-use Rattle.aom_classes.specs.Roles.{or_else}
+use Rattle.aom_link_conditions.specs.Roles.{or_else}
 use Rattle.aom_semantics.specs.State.{State}
-use Rattle.aom_machine_state.specs.Stands.{StandsFor}
+use Rattle.aom_machine_state.specs.Stands.{Refines}
 use Rattle.aom_machine_state.specs.declared.parts.Parts.{Parts}
-use Rattle.aom_debug_views.specs.Sights.{counted}
+use Rattle.aom_debug_views.specs.CellViews.{counted}
 use Rattle.aom_debug_paths.proofs.DebugViewsLemmas.{as_many_items, as_many_tasks}
 use Rattle.aom_debug_paths.specs.declared.finding.Series.{Series}
 use Rattle.aom_debug_paths.specs.declared.finding.Series.TheVariants.{Entries, Frames, Goings}
@@ -23,10 +23,10 @@ module _ (f : ℕ → Bool) (k : ℕ) where
       go false e = ap (λ x. x == 1) e
 
   -- it is none of the first so many; it is the next, or not
-  pub numbered_told : (n here others : ℕ) (b : Bool) →
+  pub numbered_reported : (n here others : ℕ) (b : Bool) →
       here ≡ cond (f n) 1 0 → others ≡ counted f n → numbered f k n ≡ None → ((here == 1) && (others == k)) ≡ b → numbered f k (suc n) ≡ cond b (Some n) None
-  numbered_told n here others b is count none told = ap (λ o. or_else o (at_count f k n)) none ∙ ap (λ c. cond (c && (counted f n == k)) (Some n) None)
-      (sym (is_so here n is)) ∙ ap (λ j. cond ((here == 1) && (j == k)) (Some n) None) (sym count) ∙ ap (λ c. cond c (Some n) None) told
+  numbered_reported n here others b is count none reported = ap (λ o. or_else o (at_count f k n)) none ∙ ap (λ c. cond (c && (counted f n == k)) (Some n) None)
+      (sym (is_so here n is)) ∙ ap (λ j. cond ((here == 1) && (j == k)) (Some n) None) (sym count) ∙ ap (λ c. cond c (Some n) None) reported
 
   -- then it is that of any more
   pub numbered_more : (n m d : ℕ) → n ≤ m → numbered f k n ≡ Some d → numbered f k m ≡ Some d
@@ -41,7 +41,7 @@ module _ (f : ℕ → Bool) (k : ℕ) where
           ap (λ o. or_else o (at_count f k m)) (earlier (omega (arith, le, apart)))
 
 -- the machine has as many places as each state that it stands for
-pub as_many : (a : Series) (p : Image) (m : Parts) (s : State) → StandsFor (record { image = p; parts = m }) s → places_in a m ≡ length_of a s
+pub as_many : (a : Series) (p : Image) (m : Parts) (s : State) → Refines (record { image = p; parts = m }) s → places_in a m ≡ length_of a s
 as_many Frames p m s st = as_many_tasks p m s st
 as_many Entries p m s st = as_many_items p m s st
 as_many Goings p m s st = as_many_tasks p m s st

@@ -8,11 +8,11 @@ use Rattle.aom_image.specs.declared.method.Thing.{Thing}
 use Rattle.aom_image.specs.declared.method.Thing.TheVariants.{Object as An_object_of, Message as A_message}
 use Rattle.std.proofs.lemmas.Option.{none-some}
 use Rattle.aom_roles.specs.Things.{words_of}
-use Rattle.aom_machine_state.specs.Stands.{StandsFor}
+use Rattle.aom_machine_state.specs.Stands.{Refines}
 use Rattle.aom_machine_state.specs.declared.parts.Parts.{Parts}
 use Rattle.aom_semantics.specs.Places.{Cell, Object, word_field}
 use Rattle.aom_semantics.specs.State.{State}
-use Rattle.aom_debug_views.specs.Sights.{class_in}
+use Rattle.aom_debug_views.specs.CellViews.{class_in}
 use Rattle.aom_debug_paths.specs.declared.following.Found.{Found}
 use Rattle.aom_debug_paths.specs.Paths.{IsFound, object_words, word_lines, words_in}
 
@@ -31,9 +31,9 @@ words_none p cs (Some o) none = go o.thing none
     go A_message is = refl
 
 -- a word of what lives in a cell
-pub word_told : (p : Image) (m : Parts) (s : State) → StandsFor (record { image = p; parts = m }) s → (n : ℕ) → Lives m.cells n → (w : ℕ) →
+pub word_reported : (p : Image) (m : Parts) (s : State) → Refines (record { image = p; parts = m }) s → (n : ℕ) → Lives m.cells n → (w : ℕ) →
     word_at m.cells n w ≡ word_field s.cells n w
-word_told p m s st n lives w = st.agrees.cells.words n w (below (cell_at m.cells n) refl lives)
+word_reported p m s st n lives w = st.agrees.cells.words n w (below (cell_at m.cells n) refl lives)
   where
     below : (o : Option Machine_cell) → cell_at m.cells n ≡ o → IsSome o → n < 4096
     below None is some = cc

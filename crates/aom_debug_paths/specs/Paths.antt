@@ -4,26 +4,26 @@ use Rattle.std.specs.List.{fold}
 use Rattle.aom_image.specs.Image.{Image}
 use Rattle.aom_image.specs.declared.method.Thing.{Thing}
 use Rattle.aom_image.specs.declared.method.Thing.TheVariants.{Object as An_object_of, Message as A_message}
-use Rattle.aom_classes.specs.Roles.{or_else}
+use Rattle.aom_link_conditions.specs.Roles.{or_else}
 use Rattle.aom_roles.specs.Things.{words_of}
 use Rattle.aom_clients.specs.declared.entry.QueueEntry.{QueueEntry}
 use Rattle.aom_clients.specs.declared.entry.QueueEntry.TheVariants as entries
-use Rattle.aom_clients.specs.declared.entry.Taken.{Taken}
+use Rattle.aom_clients.specs.declared.entry.TakenEntry.{TakenEntry}
 use Rattle.aom_semantics.specs.Owned.{over}
 use Rattle.aom_semantics.specs.Places.{Asked, Cell, Close_of, Connect_of, Elsewhere, Entry, Field, Going, In_service, Message_of, Object, Place, Register, Root, Session, held, service_of, word_field}
 use Rattle.aom_semantics.specs.State.{State}
 use Rattle.aom_cells.specs.Heap.{Lives}
 use Rattle.aom_machine_state.specs.declared.parts.Parts.{Parts}
-use Rattle.aom_debug_words.specs.declared.answer.Answer.{Answer}
-use Rattle.aom_debug_words.specs.declared.answer.Answer.TheVariants.{Close, Connect, Message, Word}
-use Rattle.aom_debug_words.specs.declared.way.Branch.{Branch}
-use Rattle.aom_debug_words.specs.declared.way.Branch.TheVariants.{Field as By_field, Session as By_session}
-use Rattle.aom_debug_words.specs.declared.way.Outer.{Outer}
-use Rattle.aom_debug_words.specs.declared.way.Outer.TheVariants.{Entry as In_entry, Going as In_going, Register as In_register, Root as At_root, Service as At_service}
-use Rattle.aom_debug_words.specs.Ways.{Way}
+use Rattle.aom_debug_protocol.specs.declared.answer.Answer.{Answer}
+use Rattle.aom_debug_protocol.specs.declared.answer.Answer.TheVariants.{Close, Connect, Message, Word}
+use Rattle.aom_debug_protocol.specs.declared.way.Branch.{Branch}
+use Rattle.aom_debug_protocol.specs.declared.way.Branch.TheVariants.{Field as By_field, Session as By_session}
+use Rattle.aom_debug_protocol.specs.declared.way.Outer.{Outer}
+use Rattle.aom_debug_protocol.specs.declared.way.Outer.TheVariants.{Entry as In_entry, Going as In_going, Register as In_register, Root as At_root, Service as At_service}
+use Rattle.aom_debug_protocol.specs.Ways.{Way}
 use Rattle.aom_debug_views.specs.Owners.{is_entry, is_frame, is_going, source_in}
-use Rattle.aom_debug_views.specs.Sights.{class_of, counted}
-use Rattle.aom_debug_views.specs.Telling.{gathered}
+use Rattle.aom_debug_views.specs.CellViews.{class_of, counted}
+use Rattle.aom_debug_views.specs.Reporting.{gathered}
 use Rattle.aom_debug_paths.specs.declared.finding.Series.{Series}
 use Rattle.aom_debug_paths.specs.declared.finding.Series.TheVariants as series
 use Rattle.aom_debug_paths.specs.declared.following.Found.{Found}
@@ -84,13 +84,13 @@ abbrev pub owned_by : Thing → Option Object → Option Object
 owned_by (An_object_of class) o = o
 owned_by A_message o = None
 
-abbrev pub onward : List Cell → Option Object → Branch → Option Object
-onward cs None b = None
-onward cs (Some o) b = owned_by o.thing (held cs (branch_place o.name b))
+abbrev pub follow_branch : List Cell → Option Object → Branch → Option Object
+follow_branch cs None b = None
+follow_branch cs (Some o) b = owned_by o.thing (held cs (branch_place o.name b))
 
 -- what is owned at a path
 abbrev pub owned_at : State → Way → Option Object
-owned_at s w = fold (onward s.cells) (held_in s.cells (outer_place s w.outer)) w.branches
+owned_at s w = fold (follow_branch s.cells) (held_in s.cells (outer_place s w.outer)) w.branches
 
 -- that, as a value
 abbrev pub IsHeld : State → Option Object → Holding → Type 0
@@ -156,5 +156,5 @@ entry_answer (entries.Connect c) client = Connect client
 entry_answer (entries.Message place) client = Message client
 entry_answer (entries.Close c) client = Close client
 
-abbrev pub taken_answer : Taken → Answer
+abbrev pub taken_answer : TakenEntry → Answer
 taken_answer t = entry_answer t.entry t.client

@@ -1,14 +1,14 @@
 //! The places that are in no object, by their numbers from the bottom.
 ghost use Rattle.std.specs.Prelude.{◌≡◌, ◌==◌, ◌&&◌, ◌<◌, ◌≤◌, IfSome, cond, option_map};
 ghost use Rattle.aom_image.specs.Image.{Image};
-ghost use Rattle.aom_machine_state.specs.Stands.{StandsFor};
+ghost use Rattle.aom_machine_state.specs.Stands.{Refines};
 ghost use Rattle.aom_semantics.specs.Places.{Entry as At_entry, Going as Goes, Register as In_register_of};
 ghost use Rattle.aom_semantics.specs.State.{State};
 ghost use Rattle.aom_debug_views.specs.Holdings.{IsOwner, place_of};
 ghost use Rattle.aom_debug_paths.specs.Paths.{is_such, outer_place, place_in, places_in};
 
+use aom_debug_protocol::Outer;
 use aom_debug_views::{Owner, entries_at, frames_at, goings_at};
-use aom_debug_words::Outer;
 use aom_instructions::Register;
 use aom_machine_state::Parts;
 
@@ -45,7 +45,7 @@ impl Series {
     fn count_at(self, parts: &Parts, place: usize) -> usize
         requires { place < places_in self parts.now }
         ensures few { result ≤ 1 }
-        ensures value { (p : Image) (s : State) → StandsFor (record { image = p; parts = parts.now }) s → result ≡ cond (is_such self s place) 1 0 }
+        ensures value { (p : Image) (s : State) → Refines (record { image = p; parts = parts.now }) s → result ≡ cond (is_such self s place) 1 0 }
     {
         match self {
             Series::Frames => frames_at(parts, place),
@@ -57,7 +57,7 @@ impl Series {
 
 /// The place of the one over so many others.
 fn numbered_place(parts: &Parts, series: Series, number: u16) -> Option<usize>
-    ensures { (p : Image) (s : State) → StandsFor (record { image = p; parts = parts.now }) s → result ≡ place_in series s number }
+    ensures { (p : Image) (s : State) → Refines (record { image = p; parts = parts.now }) s → result ≡ place_in series s number }
 {
     let mut others = 0;
     for place in 0..series.places(parts) {
@@ -102,7 +102,7 @@ fn going_owner(depth: Option<usize>) -> Option<Owner>
 
 /// The place that is meant, if there is one.
 pub(crate) fn outer_owner(parts: &Parts, outer: Outer) -> Option<Owner>
-    ensures place { (p : Image) (s : State) → StandsFor (record { image = p; parts = parts.now }) s → option_map (λ x. place_of x) result ≡ outer_place s outer }
+    ensures place { (p : Image) (s : State) → Refines (record { image = p; parts = parts.now }) s → option_map (λ x. place_of x) result ≡ outer_place s outer }
     ensures owner { IfSome result (λ x. IsOwner x) }
 {
     match outer {

@@ -2,17 +2,17 @@
 ghost use Rattle.std.specs.Prelude.{◌≡◌, IfSome, Option};
 ghost use Rattle.aom_cells.specs.Heap.{Lives};
 ghost use Rattle.aom_machine.specs.Agreement.{AgreesInAll};
-ghost use Rattle.aom_machine_state.specs.Stands.{Stands, StandsFor};
+ghost use Rattle.aom_machine_state.specs.Stands.{Stands, Refines};
 ghost use Rattle.aom_semantics.specs.Places.{Object as ObjectRecord};
 ghost use Rattle.aom_semantics.specs.State.{State};
 ghost use Rattle.aom_debug_views.specs.Holdings.{IsOwner, place_of};
-ghost use Rattle.aom_debug_paths.specs.Paths.{IsAlive, IsFound, IsHeld, branch_place, held_in, onward, outer_place, owned_at};
+ghost use Rattle.aom_debug_paths.specs.Paths.{IsAlive, IsFound, IsHeld, branch_place, held_in, follow_branch, outer_place, owned_at};
 
 use crate::finding::outer_owner;
 use aom_budget::Accepted;
 use aom_cells::CellId;
+use aom_debug_protocol::{Branch, Outer, Path};
 use aom_debug_views::{Holding, Owner, held_at};
-use aom_debug_words::{Branch, Outer, Path};
 use aom_machine_state::Parts;
 
 /// What is owned at a place that is in no object.
@@ -20,7 +20,7 @@ fn outer_holding(parts: &Parts, accepted: &Accepted, outer: Outer) -> Holding
     requires stands { Stands (record { image = accepted.now; parts = parts.now }) }
     requires agrees { AgreesInAll (record { image = accepted.now; parts = parts.now }) }
     ensures alive { IsAlive parts.now result }
-    ensures held { (s : State) → StandsFor (record { image = accepted.now; parts = parts.now }) s → IsHeld s (held_in s.cells (outer_place s outer)) result }
+    ensures held { (s : State) → Refines (record { image = accepted.now; parts = parts.now }) s → IsHeld s (held_in s.cells (outer_place s outer)) result }
 {
     match outer_owner(parts, outer) {
         Some(owner) => held_at(parts, accepted, owner),
@@ -43,11 +43,11 @@ fn branch_owner(cell: u32, branch: Branch) -> Owner
 }
 
 /// On from what is owned to what a branch of it leads to.
-fn onward(parts: &Parts, accepted: &Accepted, holding: Holding, branch: Branch) -> Holding
+fn follow_branch(parts: &Parts, accepted: &Accepted, holding: Holding, branch: Branch) -> Holding
     requires stands { Stands (record { image = accepted.now; parts = parts.now }) }
     requires agrees { AgreesInAll (record { image = accepted.now; parts = parts.now }) }
     ensures alive { IsAlive parts.now result }
-    ensures held { (s : State) (o : Option ObjectRecord) → StandsFor (record { image = accepted.now; parts = parts.now }) s → IsHeld s o holding → IsHeld s (onward s.cells o branch) result }
+    ensures held { (s : State) (o : Option ObjectRecord) → Refines (record { image = accepted.now; parts = parts.now }) s → IsHeld s o holding → IsHeld s (follow_branch s.cells o branch) result }
 {
     match holding {
         Holding::Object { cell, .. } => held_at(parts, accepted, branch_owner(cell, branch)),
@@ -60,11 +60,11 @@ fn owned_at(parts: &Parts, accepted: &Accepted, path: &Path) -> Holding
     requires stands { Stands (record { image = accepted.now; parts = parts.now }) }
     requires agrees { AgreesInAll (record { image = accepted.now; parts = parts.now }) }
     ensures alive { IsAlive parts.now result }
-    ensures held { (s : State) → StandsFor (record { image = accepted.now; parts = parts.now }) s → IsHeld s (owned_at s path.now) result }
+    ensures held { (s : State) → Refines (record { image = accepted.now; parts = parts.now }) s → IsHeld s (owned_at s path.now) result }
 {
     let mut holding = outer_holding(parts, accepted, path.outer());
     for branch in path.branches() {
-        holding = onward(parts, accepted, holding, *branch);
+        holding = follow_branch(parts, accepted, holding, *branch);
     }
     holding
 }
@@ -81,7 +81,7 @@ pub fn object_at(parts: &Parts, accepted: &Accepted, path: &Path) -> Option<Foun
     requires stands { Stands (record { image = accepted.now; parts = parts.now }) }
     requires agrees { AgreesInAll (record { image = accepted.now; parts = parts.now }) }
     ensures lives { IfSome result (λ f. Lives parts.now.cells f.cell) }
-    ensures found { (s : State) → StandsFor (record { image = accepted.now; parts = parts.now }) s → IsFound (owned_at s path.now) result }
+    ensures found { (s : State) → Refines (record { image = accepted.now; parts = parts.now }) s → IsFound (owned_at s path.now) result }
 {
     let Holding::Object { cell, class } = owned_at(parts, accepted, path) else {
         return None;

@@ -11,35 +11,35 @@ use Rattle.aom_cells.specs.declared.cell.Cell.{Cell as Machine_cell}
 use Rattle.aom_frames.specs.declared.frame.Frame.{Frame as Machine_frame}
 use Rattle.aom_frames.specs.declared.task.Task.{Task as Machine_task}
 use Rattle.aom_frames.specs.declared.task.Task.TheVariants.{Run as Runs_frame}
-use Rattle.aom_shape.specs.Kinds.{register}
-use Rattle.aom_shape.specs.Shape.{Shape}
+use Rattle.aom_abstract_state.specs.Kinds.{register}
+use Rattle.aom_abstract_state.specs.AbstractState.{AbstractState}
 use Rattle.aom_image.specs.declared.method.Thing.{Thing}
-use Rattle.aom_shape.specs.declared.kind.Age.{Age}
-use Rattle.aom_shape.specs.declared.kind.Kind.{Kind}
-use Rattle.aom_shape.specs.declared.kind.Kind.TheVariants.{Maybe, Null, Own, Unset, Word}
+use Rattle.aom_abstract_state.specs.declared.kind.InitState.{InitState}
+use Rattle.aom_abstract_state.specs.declared.kind.Kind.{Kind}
+use Rattle.aom_abstract_state.specs.declared.kind.Kind.TheVariants.{Maybe, Null, Own, Unset, Word}
 use Rattle.aom_semantics.specs.Owned.{over}
 use Rattle.aom_semantics.specs.Places.{Cell, Object, Place, Register, held}
 use Rattle.aom_semantics.specs.State.{Frame, Run, State, Task, word}
-use Rattle.aom_typings.specs.Strongest.{IsShapeAt, IsStrongest}
+use Rattle.aom_static_bounds.specs.Strongest.{IsShapeAt, IsStrongest}
 use Rattle.aom_machine_state.specs.declared.parts.Parts.{Parts}
 use Rattle.aom_machine_state.specs.Agrees.{number}
-use Rattle.aom_machine_state.specs.Stands.{Machine, Stands, StandsFor}
+use Rattle.aom_machine_state.specs.Stands.{MachineModel, Stands, Refines}
 use Rattle.aom_debug_views.proofs.MachineInstructionsLemmas.{not_null}
 use Rattle.aom_machine.specs.Agreement.{AgreesInAll}
-use Rattle.aom_debug_words.specs.declared.answer.Answer.{Answer}
-use Rattle.aom_debug_words.specs.declared.answer.Answer.TheVariants.{Frame as A_frame, Register as A_register}
-use Rattle.aom_debug_words.specs.declared.answer.Source.{Source}
-use Rattle.aom_debug_words.specs.declared.answer.Content.{Content}
-use Rattle.aom_debug_words.specs.declared.answer.Content.TheVariants as contents
-use Rattle.aom_debug_names.specs.Names.{Names}
+use Rattle.aom_debug_protocol.specs.declared.answer.Answer.{Answer}
+use Rattle.aom_debug_protocol.specs.declared.answer.Answer.TheVariants.{Frame as A_frame, Register as A_register}
+use Rattle.aom_debug_protocol.specs.declared.answer.Source.{Source}
+use Rattle.aom_debug_protocol.specs.declared.answer.Content.{Content}
+use Rattle.aom_debug_protocol.specs.declared.answer.Content.TheVariants as contents
+use Rattle.aom_debug_symbols.specs.NameLists.{NameLists}
 use Rattle.aom_debug_views.specs.Frames.{RegisterShows, ShowsFrame, content_by, frame_answers, frame_lines, kind_in, kinds_of, loop_answer, loop_in}
 use Rattle.aom_debug_views.specs.Frames.{owned_content, place_in, register_in, trap_by, trap_held, trap_in, trap_under}
 use Rattle.aom_debug_views.specs.Owners.{Shows, ShowsIf, is_frame, may_own, source_at}
-use Rattle.aom_debug_views.specs.Sights.{class_of}
-use Rattle.aom_debug_views.specs.Telling.{IsCut, Tells, TellsPart, answers_by, gathered, listed}
-use Rattle.aom_debug_words.specs.declared.fault.DebugFault.{DebugFault}
+use Rattle.aom_debug_views.specs.CellViews.{class_of}
+use Rattle.aom_debug_views.specs.Reporting.{IsCut, Reports, ReportsPart, answers_by, gathered, listed}
+use Rattle.aom_debug_protocol.specs.declared.fault.DebugFault.{DebugFault}
 use Rattle.aom_transcript.specs.Sinks.{after}
-use Rattle.aom_rules.specs.Typing.{Typing, shape_at}
+use Rattle.aom_typing_rules.specs.Typing.{Typing, shape_at}
 use Rattle.aom_debug_views.proofs.Registers.{frame_method, frame_shown}
 use Rattle.aom_debug_views.proofs.Showing.{class_held}
 use Rattle.aom_debug_views.proofs.Tasks.{SameOver, frame_there, same_over}
@@ -52,7 +52,7 @@ class_content : (cs : List Cell) (o : Option Object) (class : ℕ) → class_of 
 class_content cs x class is = grind (arith, nat_tests, thing_is)
 
 module _ (p : Image) (m : Parts) (n : ℕ) (r : Place) (shows : Shows (record { image = p; parts = m }) n r) (s : State)
-    (st : StandsFor (record { image = p; parts = m }) s) where
+    (st : Refines (record { image = p; parts = m }) s) where
   pub null_content : n ≡ null → Some contents.Null ≡ owned_content s.cells (held s.cells r)
   null_content is = grind (arith, nat_tests, not_null p m st.typing s st.typed st.agrees r)
 
@@ -61,7 +61,7 @@ module _ (p : Image) (m : Parts) (n : ℕ) (r : Place) (shows : Shows (record { 
 
   pub message_content : (source : Source) → None ≡ class_at m.cells n → Some source ≡ source_at m n →
       Some (contents.Message source) ≡ owned_content s.cells (held s.cells r)
-  message_content source none told = grind (arith, nat_tests, message_found p m n source r s st shows)
+  message_content source none reported = grind (arith, nat_tests, message_found p m n source r s st shows)
 
   pub no_content : n ≢ null → (Lives m.cells n → ⊥) → None ≡ source_at m n → None ≡ owned_content s.cells (held s.cells r)
   no_content some dead unsent = absurd (some (shows.each s st ∙ ap number ((none_sends p m n r dead (sym unsent) shows).each s st)))
@@ -74,17 +74,17 @@ module _ (p : Image) (m : Parts) (n : ℕ) (r : Place) (shows : Shows (record { 
       dead : (c : Option Machine_cell) → None ≡ class_of_cell c → IsSome c → ⊥
       dead x is lives = grind (arith, nat_tests)
 
-      go : (told : Option Source) → source_at m n ≡ told → option_map (λ source. contents.Message source) told ≡ owned_content s.cells (held s.cells r)
+      go : (reported : Option Source) → source_at m n ≡ reported → option_map (λ source. contents.Message source) reported ≡ owned_content s.cells (held s.cells r)
       go None is = no_content some (dead (cell_at m.cells n) none) (sym is)
       go (Some source) is = message_content source none (sym is)
 
 -- ---- the registers of a frame
 
 module _ (p : Image) (m : Parts) (stands : Stands (record { image = p; parts = m })) (agrees : AgreesInAll (record { image = p; parts = m })) where
-  abbrev M : Machine
+  abbrev M : MachineModel
   M = record { image = p; parts = m }
 
-  pub frame_shows : (k : ℕ) (f : Machine_frame) (sh : Shape) → over m.stack.tasks k ≡ Some (Runs_frame f) →
+  pub frame_shows : (k : ℕ) (f : Machine_frame) (sh : AbstractState) → over m.stack.tasks k ≡ Some (Runs_frame f) →
       IsShapeAt p f.method f.place (Some sh) → ShowsFrame M sh f k
   frame_shows k f sh there shape = record {
     there = λ s st. frame_there p m s st k f there;
@@ -102,7 +102,7 @@ module _ (p : Image) (m : Parts) (stands : Stands (record { image = p; parts = m
 -- ---- what a register has, by its kind
 
 module _ (p : Image) (m : Parts) (kind : Kind) (n depth i : ℕ) (shows : RegisterShows (record { image = p; parts = m }) kind n depth i)
-    (s : State) (st : StandsFor (record { image = p; parts = m }) s) (fr : Frame) (there : over s.tasks depth ≡ Some (Run fr)) where
+    (s : State) (st : Refines (record { image = p; parts = m }) s) (fr : Frame) (there : over s.tasks depth ≡ Some (Run fr)) where
   abbrev Has : Option Content → Kind → Type 0
   Has content k = content ≡ content_by s.cells k (word fr i) (held s.cells (Register depth i))
 
@@ -114,68 +114,68 @@ module _ (p : Image) (m : Parts) (kind : Kind) (n depth i : ℕ) (shows : Regist
 
   pub word_has : kind ≡ Word → Has (Some (contents.Word (cast_signed w32 n))) kind
   word_has is =
-      let told = (shows_so Word is).each s st fr there in
-      subst (λ k. Has (Some (contents.Word (cast_signed w32 n))) k) (sym is) (sym (ap (λ w. option_map (λ v. contents.Word v) w) told))
+      let reported = (shows_so Word is).each s st fr there in
+      subst (λ k. Has (Some (contents.Word (cast_signed w32 n))) k) (sym is) (sym (ap (λ w. option_map (λ v. contents.Word v) w) reported))
 
   pub null_has : kind ≡ Null → Has (Some contents.Null) kind
   null_has is = grind (arith, nat_tests, shows_so Null is)
 
-  own_has : (t : Thing) (a : Age) (content : Option Content) → kind ≡ Own t a →
+  own_has : (t : Thing) (a : InitState) (content : Option Content) → kind ≡ Own t a →
       (Shows (record { image = p; parts = m }) n (Register depth i) → content ≡ owned_content s.cells (held s.cells (Register depth i))) → Has content kind
-  own_has t a content is told = subst (λ k. Has content k) (sym is) (told (shows_so (Own t a) is))
+  own_has t a content is reported = subst (λ k. Has content k) (sym is) (reported (shows_so (Own t a) is))
 
-  maybe_has : (t : Thing) (a : Age) (content : Option Content) → kind ≡ Maybe t a →
+  maybe_has : (t : Thing) (a : InitState) (content : Option Content) → kind ≡ Maybe t a →
       (Shows (record { image = p; parts = m }) n (Register depth i) → content ≡ owned_content s.cells (held s.cells (Register depth i))) → Has content kind
-  maybe_has t a content is told = subst (λ k. Has content k) (sym is) (told (shows_so (Maybe t a) is))
+  maybe_has t a content is reported = subst (λ k. Has content k) (sym is) (reported (shows_so (Maybe t a) is))
 
-  pub owned_has : (content : Option Content) → ((t : Thing) × (a : Age) × (kind ≡ Own t a)) ⊎ ((t : Thing) × (a : Age) × (kind ≡ Maybe t a)) →
+  pub owned_has : (content : Option Content) → ((t : Thing) × (a : InitState) × (kind ≡ Own t a)) ⊎ ((t : Thing) × (a : InitState) × (kind ≡ Maybe t a)) →
       (Shows (record { image = p; parts = m }) n (Register depth i) → content ≡ owned_content s.cells (held s.cells (Register depth i))) → Has content kind
-  owned_has content x told = grind (arith, nat_tests, own_has, maybe_has)
+  owned_has content x reported = grind (arith, nat_tests, own_has, maybe_has)
 
 -- ---- lines of a frame that stands there
 
-pub content_told : (p : Image) (m : Parts) (sh : Shape) (f : Machine_frame) (depth i : ℕ) →
-    ShowsFrame (record { image = p; parts = m }) sh f depth → (s : State) → StandsFor (record { image = p; parts = m }) s → (kind : Kind) (n : ℕ) →
+pub content_reported : (p : Image) (m : Parts) (sh : AbstractState) (f : Machine_frame) (depth i : ℕ) →
+    ShowsFrame (record { image = p; parts = m }) sh f depth → (s : State) → Refines (record { image = p; parts = m }) s → (kind : Kind) (n : ℕ) →
     kind ≡ register sh i → n ≡ slice_index_or f.registers i null → (content : Option Content) → ((fr : Frame) → over s.tasks depth ≡ Some (Run fr) →
     RegisterShows (record { image = p; parts = m }) kind n depth i → content ≡ content_by s.cells kind (word fr i) (held s.cells (Register depth i)))
     → option_map (λ x. A_register i x) content ≡ register_in (λ k. register sh k) s.cells depth (over s.tasks depth) i
-content_told p m sh f depth i shown s st kind n is number_is content told =
+content_reported p m sh f depth i shown s st kind n is number_is content reported =
     let fr = shown.there s st in
     let shows = subst (λ k. RegisterShows (record { image = p; parts = m }) k n depth i)
     (sym is) (subst (λ x. RegisterShows (record { image = p; parts = m }) (register sh i) x depth i) (sym number_is) (shown.registers i)) in
-    ap (λ x. option_map (λ y. A_register i y) x) (told fr.0 fr.1 shows ∙ ap (λ k. content_by s.cells k (word fr.0 i) (held s.cells (Register depth i))) is)
+    ap (λ x. option_map (λ y. A_register i y) x) (reported fr.0 fr.1 shows ∙ ap (λ k. content_by s.cells k (word fr.0 i) (held s.cells (Register depth i))) is)
     ∙ sym (ap (λ o. register_in (λ k. register sh k) s.cells depth o i) fr.1)
 
-pub loop_told : (m : Machine) (sh : Shape) (f : Machine_frame) (depth i : ℕ) → ShowsFrame m sh f depth → (s : State) →
-    StandsFor m s → (answer : Option Answer) → answer ≡ loop_answer i (slice_index_or f.counters i 0) → listed answer ≡ listed (loop_in (over s.tasks depth) i)
-loop_told m sh f depth i shown s st answer is = grind (arith, nat_tests, shown.there s st)
+pub loop_reported : (m : MachineModel) (sh : AbstractState) (f : Machine_frame) (depth i : ℕ) → ShowsFrame m sh f depth → (s : State) →
+    Refines m s → (answer : Option Answer) → answer ≡ loop_answer i (slice_index_or f.counters i 0) → listed answer ≡ listed (loop_in (over s.tasks depth) i)
+loop_reported m sh f depth i shown s st answer is = grind (arith, nat_tests, shown.there s st)
 
-pub place_told : (m : Machine) (sh : Shape) (f : Machine_frame) (depth : ℕ) → ShowsFrame m sh f depth →
-    (s : State) → StandsFor m s → listed (Some (A_frame (record { method = f.method; place = f.place }))) ≡ listed (place_in (over s.tasks depth))
-place_told m sh f depth shown s st = search (arith, nat_tests, shown.there s st)
+pub place_reported : (m : MachineModel) (sh : AbstractState) (f : Machine_frame) (depth : ℕ) → ShowsFrame m sh f depth →
+    (s : State) → Refines m s → listed (Some (A_frame (record { method = f.method; place = f.place }))) ≡ listed (place_in (over s.tasks depth))
+place_reported m sh f depth shown s st = search (arith, nat_tests, shown.there s st)
 
 trap_alike : (o : Option Machine_task) (u : Option Task) → SameOver o u → trap_held o ≡ trap_by u
 trap_alike o u same = grind arith
 
-pub trap_told : (p : Image) (m : Parts) (s : State) →
-    StandsFor (record { image = p; parts = m }) s → (k : ℕ) (o : Option Machine_task) → o ≡ over m.stack.tasks k → trap_held o ≡ trap_by (over s.tasks k)
-trap_told p m s st k o is = ap trap_held is ∙ trap_alike (over m.stack.tasks k) (over s.tasks k) (same_over p m s st k)
+pub trap_reported : (p : Image) (m : Parts) (s : State) →
+    Refines (record { image = p; parts = m }) s → (k : ℕ) (o : Option Machine_task) → o ≡ over m.stack.tasks k → trap_held o ≡ trap_by (over s.tasks k)
+trap_reported p m s st k o is = ap trap_held is ∙ trap_alike (over m.stack.tasks k) (over s.tasks k) (same_over p m s st k)
 
 pub trap_below : (tasks : List Task) (n : ℕ) → n ≢ 0 → trap_by (over tasks (n - 1)) ≡ trap_under tasks n
 trap_below tasks x some = grind arith
 
-pub trap_there : (m : Machine) (sh : Shape) (f : Machine_frame) (depth : ℕ) → ShowsFrame m sh f depth → (s : State) →
-    StandsFor m s → (answer : Option Answer) → answer ≡ trap_under s.tasks depth → listed answer ≡ listed (trap_in s.tasks depth (over s.tasks depth))
+pub trap_there : (m : MachineModel) (sh : AbstractState) (f : Machine_frame) (depth : ℕ) → ShowsFrame m sh f depth → (s : State) →
+    Refines m s → (answer : Option Answer) → answer ≡ trap_under s.tasks depth → listed answer ≡ listed (trap_in s.tasks depth (over s.tasks depth))
 trap_there m sh f depth shown s st answer is = let fr = shown.there s st in ap listed (is ∙ sym (ap (λ o. trap_in s.tasks depth o) fr.1))
 
 -- ---- what is out of them
 
-pub told_here : (ns : Names) (m : Machine) (xs : List Answer) (f : State → List Answer) (before now : Option (List ℕ)) →
-    ((s : State) → StandsFor m s → xs ≡ f s) → now ≡ after before (answers_by ns xs) → Tells m (λ s. answers_by ns (f s)) before now
-told_here ns m xs f before now same put = record { out = λ s st. put ∙ ap (λ ys. after before (answers_by ns ys)) (same s st) }
+pub reported_here : (ns : NameLists) (m : MachineModel) (xs : List Answer) (f : State → List Answer) (before now : Option (List ℕ)) →
+    ((s : State) → Refines m s → xs ≡ f s) → now ≡ after before (answers_by ns xs) → Reports m (λ s. answers_by ns (f s)) before now
+reported_here ns m xs f before now same put = record { out = λ s st. put ∙ ap (λ ys. after before (answers_by ns ys)) (same s st) }
 
-pub part_here : (ns : Names) (m : Machine) (xs : List Answer) (f : State → List Answer) (fault : DebugFault) (failed : Bool) (before now : Option (List ℕ)) →
-    ((s : State) → StandsFor m s → xs ≡ f s) → IsCut (answers_by ns xs) fault failed before now → TellsPart m (λ s. answers_by ns (f s)) fault failed before now
+pub part_here : (ns : NameLists) (m : MachineModel) (xs : List Answer) (f : State → List Answer) (fault : DebugFault) (failed : Bool) (before now : Option (List ℕ)) →
+    ((s : State) → Refines m s → xs ≡ f s) → IsCut (answers_by ns xs) fault failed before now → ReportsPart m (λ s. answers_by ns (f s)) fault failed before now
 part_here ns m xs f fault failed before now same cut = search (arith, nat_tests)
 
 -- ---- a frame by the strongest typing
@@ -199,8 +199,8 @@ same_lines : (kinds others : ℕ → Kind) → ((i : ℕ) → kinds i ≡ others
     frame_lines kinds s depth o ≡ frame_lines others s depth o
 same_lines kinds others same s depth o = grind arith
 
-pub typed_lines : (ns : Names) (p : Image) (m : Parts) (f : Machine_frame) (sh : Shape) (depth : ℕ) → ShowsFrame (record { image = p; parts = m }) sh f depth →
-    IsSome (method_at p f.method) → IsShapeAt p f.method f.place (Some sh) → (t : Typing) → IsStrongest p t → (s : State) → StandsFor (record
+pub typed_lines : (ns : NameLists) (p : Image) (m : Parts) (f : Machine_frame) (sh : AbstractState) (depth : ℕ) → ShowsFrame (record { image = p; parts = m }) sh f depth →
+    IsSome (method_at p f.method) → IsShapeAt p f.method f.place (Some sh) → (t : Typing) → IsStrongest p t → (s : State) → Refines (record
     { image = p; parts = m }) s → answers_by ns (frame_lines (λ i. register sh i) s depth (over s.tasks depth)) ≡ answers_by ns (frame_answers t s depth)
 typed_lines ns p m f sh depth shown method shape t strongest s st =
     let fr = shown.there s st in

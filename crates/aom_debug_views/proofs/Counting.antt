@@ -8,19 +8,19 @@ use Rattle.std.proofs.lemmas.Option.{none-some}
 use Rattle.aom_image.specs.Image.{Image}
 use Rattle.aom_cells.specs.Heap.{class_at}
 use Rattle.aom_cells.specs.Heap.{count as living}
-use Rattle.aom_semantics.specs.Places.{Cell, Tidy, count_cells, named}
+use Rattle.aom_semantics.specs.Places.{Cell, NoDuplicates, count_cells, named}
 use Rattle.aom_semantics.specs.State.{State}
 use Rattle.aom_machine_state.specs.declared.parts.Parts.{Parts}
-use Rattle.aom_machine_state.specs.Stands.{StandsFor}
+use Rattle.aom_machine_state.specs.Stands.{Refines}
 use Rattle.aom_transcript.specs.Sinks.{after}
 use Rattle.aom_transcript.specs.Text.{ended}
-use Rattle.aom_debug_words.specs.declared.fault.DebugFault.{DebugFault}
-use Rattle.aom_debug_names.specs.Names.{Names}
-use Rattle.aom_debug_names.specs.Answers.{answer_by}
-use Rattle.aom_debug_words.specs.declared.answer.Answer.{Answer}
-use Rattle.aom_debug_words.specs.declared.answer.Answer.TheVariants.{Cells}
-use Rattle.aom_debug_views.specs.Telling.{IsCut, Tells, TellsPart, answers_by}
-use Rattle.aom_debug_views.specs.Sights.{class_in, class_of, count_class, counted, is_class}
+use Rattle.aom_debug_protocol.specs.declared.fault.DebugFault.{DebugFault}
+use Rattle.aom_debug_symbols.specs.NameLists.{NameLists}
+use Rattle.aom_debug_symbols.specs.Answers.{answer_by}
+use Rattle.aom_debug_protocol.specs.declared.answer.Answer.{Answer}
+use Rattle.aom_debug_protocol.specs.declared.answer.Answer.TheVariants.{Cells}
+use Rattle.aom_debug_views.specs.Reporting.{IsCut, Reports, ReportsPart, answers_by}
+use Rattle.aom_debug_views.specs.CellViews.{class_in, class_of, count_class, counted, is_class}
 use Rattle.aom_debug_views.proofs.Showing.{class_named}
 
 -- ---- counts
@@ -50,8 +50,8 @@ module _ (class : ℕ) where
   abbrev NamesBelow : ℕ → List Cell → Type 0
   NamesBelow limit cs = (n k : ℕ) → class_of (named cs n) ≡ Some k → n < limit
 
-  first_told : (c : Cell) (cs : List Cell) (n : ℕ) → has (c ∷ cs) n ≡ cond (c.object.name == n) (is_class class (class_in c.object.thing)) (has cs n)
-  first_told c cs n = grind (arith, nat_tests)
+  first_reported : (c : Cell) (cs : List Cell) (n : ℕ) → has (c ∷ cs) n ≡ cond (c.object.name == n) (is_class class (class_in c.object.thing)) (has cs n)
+  first_reported c cs n = grind (arith, nat_tests)
 
   others_below : (limit : ℕ) (c : Cell) (cs : List Cell) → named cs c.object.name ≡ None → NamesBelow limit (c ∷ cs) → NamesBelow limit cs
   others_below limit c cs none below n k is = go (c.object.name == n) refl
@@ -64,14 +64,14 @@ module _ (class : ℕ) where
   class_some x is = grind (arith, nat_tests, eqb-true)
 
   -- as many as there are, where all names are below the limit
-  counted_names : (limit : ℕ) (cs : List Cell) → Tidy cs → NamesBelow limit cs → counted (has cs) limit ≡ count_class class cs
-  counted_names limit [] tidy below = none_counted limit
-  counted_names limit (c ∷ cs) tidy below =
-      counted_same (has (c ∷ cs)) (λ n. cond (c.object.name == n) (is_class class (class_in c.object.thing)) (has cs n)) limit (λ k less. first_told c cs k)
-      ∙ go (counted_names limit cs tidy.2 (others_below limit c cs tidy.1 below)) (is_class class (class_in c.object.thing)) refl
+  counted_names : (limit : ℕ) (cs : List Cell) → NoDuplicates cs → NamesBelow limit cs → counted (has cs) limit ≡ count_class class cs
+  counted_names limit [] no_duplicates below = none_counted limit
+  counted_names limit (c ∷ cs) no_duplicates below =
+      counted_same (has (c ∷ cs)) (λ n. cond (c.object.name == n) (is_class class (class_in c.object.thing)) (has cs n)) limit (λ k less. first_reported c cs k)
+      ∙ go (counted_names limit cs no_duplicates.2 (others_below limit c cs no_duplicates.1 below)) (is_class class (class_in c.object.thing)) refl
     where
       absent : has cs c.object.name ≡ false
-      absent = ap (λ o. is_class class (class_of o)) tidy.1
+      absent = ap (λ o. is_class class (class_of o)) no_duplicates.1
 
       unseen : (k : ℕ) (b : Bool) → (c.object.name == k) ≡ b → cond b false (has cs k) ≡ has cs k
       unseen k x same = grind (arith, nat_tests, eqb-true, absent)
@@ -85,26 +85,26 @@ module _ (class : ℕ) where
       go rest false is = counted_same (λ n. cond (c.object.name == n) false (has cs n)) (has cs) limit (λ k less. unseen k (c.object.name == k) refl) ∙ rest
 
 -- so the machine's numbers are counted
-module _ (p : Image) (m : Parts) (s : State) (st : StandsFor (record { image = p; parts = m }) s) where
+module _ (p : Image) (m : Parts) (s : State) (st : Refines (record { image = p; parts = m }) s) where
   names_below : (class : ℕ) → NamesBelow class m.cells.limit s.cells
   names_below class n k is = grind (arith, nat_tests, class_named p m s st n)
 
   pub class_counted : (class count : ℕ) → count ≡ counted (λ n. is_class class (class_at m.cells n)) m.cells.limit → count ≡ count_class class s.cells
   class_counted class count is = is ∙ counted_same (λ n. is_class class (class_at m.cells n)) (has class s.cells) m.cells.limit
-      (λ k less. ap (is_class class) (class_named p m s st k)) ∙ counted_names class m.cells.limit s.cells st.typed.good.tidy (names_below class)
+      (λ k less. ap (is_class class) (class_named p m s st k)) ∙ counted_names class m.cells.limit s.cells st.typed.good.no_duplicates (names_below class)
 
 -- how many there are in all
-module _ (ns : Names) (m : Parts) (n : ℕ) (is : n ≡ living m.cells) (p : Image) where
+module _ (ns : NameLists) (m : Parts) (n : ℕ) (is : n ≡ living m.cells) (p : Image) where
   abbrev pub all_cells : State → List Answer
   all_cells s = Cells (count_cells s.cells) ∷ []
 
-  same_count : (s : State) → StandsFor (record { image = p; parts = m }) s → ended (answer_by ns (Cells n)) ≡ answers_by ns (all_cells s)
+  same_count : (s : State) → Refines (record { image = p; parts = m }) s → ended (answer_by ns (Cells n)) ≡ answers_by ns (all_cells s)
   same_count s st = grind (arith, nat_tests, append-nil)
 
-  pub count_told : (before now : Option (List ℕ)) → now ≡ after before (ended (answer_by ns (Cells n))) →
-      Tells (record { image = p; parts = m }) (λ s. answers_by ns (all_cells s)) before now
-  count_told before now out = record { out = λ s st. out ∙ ap (λ t. after before t) (same_count s st) }
+  pub count_reported : (before now : Option (List ℕ)) → now ≡ after before (ended (answer_by ns (Cells n))) →
+      Reports (record { image = p; parts = m }) (λ s. answers_by ns (all_cells s)) before now
+  count_reported before now out = record { out = λ s st. out ∙ ap (λ t. after before t) (same_count s st) }
 
   pub count_cut : (fault : DebugFault) (failed : Bool) (before now : Option (List ℕ)) → IsCut (ended (answer_by ns (Cells n))) fault failed before now →
-      TellsPart (record { image = p; parts = m }) (λ s. answers_by ns (all_cells s)) fault failed before now
-  count_cut fault failed before now cut = record { told = cut.told; fails = cut.fails; out = grind (arith, same_count) }
+      ReportsPart (record { image = p; parts = m }) (λ s. answers_by ns (all_cells s)) fault failed before now
+  count_cut fault failed before now cut = record { reported = cut.reported; fails = cut.fails; out = grind (arith, same_count) }

@@ -1,10 +1,10 @@
 mod Over
-mod Telling
+mod Reporting
 mod Series
 mod Showing
 mod Trees
 mod Enlisted
-mod Dues
+mod DueTimes
 mod Orders
 mod Counting
 mod Tasks
@@ -16,7 +16,7 @@ mod Contents
 mod Numbers
 mod Spaced
 pub mod DebugViewsLemmas
-pub use Rattle.aom_classes.proofs.ClassesLemmas
+pub use Rattle.aom_link_conditions.proofs.LinkConditionsLemmas
 pub use Rattle.aom_clients.proofs.ClientsLemmas
 pub use Rattle.aom_machine.proofs.MachineLemmas
 pub use Rattle.aom_machine_instructions.proofs.MachineInstructionsLemmas
@@ -24,4 +24,4 @@ pub use Rattle.aom_machine_state.proofs.MachineStateLemmas
 pub use Rattle.aom_safety.proofs.SafetyLemmas
 pub use Rattle.aom_scheduler.proofs.SchedulerLemmas
 pub use Rattle.aom_semantics.proofs.SemanticsLemmas
-pub use Rattle.aom_typings.proofs.TypingsLemmas
+pub use Rattle.aom_static_bounds.proofs.StaticBoundsLemmas

@@ -11,7 +11,7 @@ use Rattle.aom_semantics.specs.Places.{Place}
 use Rattle.aom_semantics.specs.State.{State}
 use Rattle.aom_machine_state.specs.Agrees.{number}
 use Rattle.aom_machine_state.specs.declared.parts.Parts.{Parts}
-use Rattle.aom_machine_state.specs.Stands.{Machine, StandsFor}
+use Rattle.aom_machine_state.specs.Stands.{MachineModel, Refines}
 use Rattle.aom_debug_views.specs.Holdings.{HasNumber, HoldsSo}
 use Rattle.aom_debug_views.specs.Owners.{Shows, ShowsIf, ShowsNone}
 use Rattle.aom_debug_views.specs.declared.holding.Holding.{Holding}
@@ -24,11 +24,11 @@ entry_past [] k le = refl
 entry_past (i ∷ is) k le = grind (arith, nat_tests, entry_past is k, ne_eqb)
 
 -- a place that owns nothing shows null
-pub shows_null : (m : Machine) (r : Place) → ShowsNone m r → Shows m null r
+pub shows_null : (m : MachineModel) (r : Place) → ShowsNone m r → Shows m null r
 shows_null m r none = record { each = λ s st. sym (ap number (none.each s st)) }
 
 -- and so does a register that may own nothing
-pub shown_if : (b : Bool) (m : Machine) (n : ℕ) (r : Place) → ShowsIf b m n r → Shows m (cond b n null) r
+pub shown_if : (b : Bool) (m : MachineModel) (n : ℕ) (r : Place) → ShowsIf b m n r → Shows m (cond b n null) r
 shown_if x m n r shows = grind (arith, nat_tests, shows_null)
 
 -- what lives has a class
@@ -37,7 +37,7 @@ classless x is lives = grind arith
 
 -- what the machine has by the number of a place is what the place holds
 pub holds_so : (p : Image) (m : Parts) (n : ℕ) (r : Place) (h : Holding) →
-    Shows (record { image = p; parts = m }) n r → HasNumber m n h → (s : State) → StandsFor (record { image = p; parts = m }) s → HoldsSo s r h
+    Shows (record { image = p; parts = m }) n r → HasNumber m n h → (s : State) → Refines (record { image = p; parts = m }) s → HoldsSo s r h
 holds_so p m n r holds.Nothing shows has s st = (none_sends p m n r (classless (cell_at m.cells n) has.0) has.1 shows).each s st
 holds_so p m n r (holds.Object cell class) shows has s st = grind (arith, found p m n class r s st shows has.1)
 holds_so p m n r (holds.Message source) shows has s st = message_found p m n source r s st shows has.0 has.1

@@ -12,7 +12,7 @@ use Rattle.aom_image.specs.declared.method.Thing.TheVariants.{Object as An_objec
 use Rattle.aom_cells.specs.Heap.{cell_at}
 use Rattle.aom_cells.specs.declared.cell.Cell.{Cell as Machine_cell}
 use Rattle.aom_semantics.specs.Owned.{over}
-use Rattle.aom_semantics.specs.Places.{Cell, Elsewhere, Entry, Field, Going, In_service, Object, Place, Queued, Register, Root, Session, Tidy, held, named}
+use Rattle.aom_semantics.specs.Places.{Cell, Elsewhere, Entry, Field, Going, In_service, Object, Place, Queued, Register, Root, Session, NoDuplicates, held, named}
 use Rattle.aom_semantics.specs.Places.{same_place, service_of}
 use Rattle.aom_semantics.specs.State.{State}
 use Rattle.aom_semantics.specs.Servers.{is_among, is_queue}
@@ -22,12 +22,12 @@ use Rattle.aom_debug_views.proofs.SemanticsLemmas.{held_lives, named_name, one_p
 use Rattle.aom_machine_state.specs.declared.parts.Parts.{Parts}
 use Rattle.aom_machine_state.specs.Places.{value}
 use Rattle.aom_machine_state.specs.Serving.{owner_of as owner_by, waits_in}
-use Rattle.aom_machine_state.specs.Stands.{Machine, StandsFor}
-use Rattle.aom_debug_views.specs.Laws.{SessionsApart, ToldOnce, has_line, lines_of}
+use Rattle.aom_machine_state.specs.Stands.{MachineModel, Refines}
+use Rattle.aom_debug_views.specs.Laws.{SessionsApart, ReportedOnce, has_line, lines_of}
 use Rattle.aom_debug_views.specs.Owners.{At_root, At_service, By_field, By_session, In_going, In_register, Outer, Owned, Way, beneath, entries_map}
 use Rattle.aom_debug_views.specs.Owners.{further, generations, goings_map, grown, is_frame, is_going, owners, registers_map, tree}
-use Rattle.aom_debug_views.specs.Sights.{counted}
-use Rattle.aom_debug_views.specs.Telling.{gathered}
+use Rattle.aom_debug_views.specs.CellViews.{counted}
+use Rattle.aom_debug_views.specs.Reporting.{gathered}
 use Rattle.aom_cells.specs.Heap.{field_of, null}
 use Rattle.aom_frames.specs.declared.item.Item.{Item as Machine_item}
 use Rattle.aom_frames.specs.declared.task.Task.{Task as Machine_task}
@@ -77,12 +77,12 @@ bit_more x n = grind arith
 -- ---- places
 
 -- two places that hold are one where what they hold has one name
-place_bit : (cs : List Cell) → Tidy cs → (q r : Place) (x o : Object) → held cs q ≡ Some x → held cs r ≡ Some o → bit (same_place r q) ≡ bit (o.name == x.name)
-place_bit cs tidy q r x o there here = go (same_place r q) refl
+place_bit : (cs : List Cell) → NoDuplicates cs → (q r : Place) (x o : Object) → held cs q ≡ Some x → held cs r ≡ Some o → bit (same_place r q) ≡ bit (o.name == x.name)
+place_bit cs no_duplicates q r x o there here = go (same_place r q) refl
   where
     go : (b : Bool) → same_place r q ≡ b → bit b ≡ bit (o.name == x.name)
     go true is = grind (arith, nat_tests, same_Some o x, same_place-true r q is, bit, eq-eqb o.name x.name)
-    go false is = grind (arith, nat_tests, one_place cs r q o x tidy here there)
+    go false is = grind (arith, nat_tests, one_place cs r q o x no_duplicates here there)
 
 -- a place that holds nothing is none that holds
 none_bit : (cs : List Cell) (q r : Place) (x : Object) → held cs q ≡ Some x → held cs r ≡ None → bit (same_place r q) ≡ 0
@@ -94,9 +94,9 @@ module _ {A : Type 0} where
   within_over (y ∷ ys) k x is = grind (arith, nat_tests, within_over ys k x, eqb-true)
 
 -- what lives is held by the place that owns its cell
-owner_there : (cs : List Cell) → Tidy cs → (n : ℕ) (x : Object) → named cs n ≡ Some x → (q : Place) × (owner_by cs n ≡ Some q) × (held cs q ≡ Some x)
-owner_there [] tidy n x is = absurd (none-some x is)
-owner_there (c ∷ cs) tidy n x is = go (c.object.name == n) (owner_there cs tidy.2 n x) is
+owner_there : (cs : List Cell) → NoDuplicates cs → (n : ℕ) (x : Object) → named cs n ≡ Some x → (q : Place) × (owner_by cs n ≡ Some q) × (held cs q ≡ Some x)
+owner_there [] no_duplicates n x is = absurd (none-some x is)
+owner_there (c ∷ cs) no_duplicates n x is = go (c.object.name == n) (owner_there cs no_duplicates.2 n x) is
   where
     later : (q : Place) → held cs q ≡ Some x → (b : Bool) → same_place c.owner q ≡ b → cond b (Some c.object) (held cs q) ≡ Some x
     later q holds y same = grind (arith, nat_tests, same_place-true)
@@ -124,27 +124,27 @@ data Up (s : State) : Place → Type 0 where
       held s.cells q ≡ Some o → is_object o.thing ≡ true → IsIn c (service_of s.cells n).sessions → Up s q → Up s (Elsewhere (Session n c))
 
 -- it ends at one that the map begins at
-abbrev ends_told : {s : State} {q : Place} → Up s q → Bool
-ends_told (up_field o q there holds high few ends) = ends_told ends
-ends_told (up_session o q there holds high within ends) = ends_told ends
-ends_told up_queue = false
-ends_told _ = true
+abbrev ends_reported : {s : State} {q : Place} → Up s q → Bool
+ends_reported (up_field o q there holds high few ends) = ends_reported ends
+ends_reported (up_session o q there holds high within ends) = ends_reported ends
+ends_reported up_queue = false
+ends_reported _ = true
 
 -- ---- how high
 
-module _ (m : Machine) (s : State) (st : StandsFor m s) (sessions_once : SessionsApart m.parts) where
+module _ (m : MachineModel) (s : State) (st : Refines m s) (sessions_once : SessionsApart m.parts) where
   abbrev p : Image
   p = m.image
 
   abbrev cs : List Cell
   cs = s.cells
 
-  abbrev tidy : Tidy cs
-  tidy = st.typed.good.tidy
+  abbrev no_duplicates : NoDuplicates cs
+  no_duplicates = st.typed.good.no_duplicates
 
   -- the sessions of a server are those of the machine
-  seats_once : (n : ℕ) → IsOnce (service_of cs n).sessions
-  seats_once n = subst IsOnce (st.agrees.services.clients.sessions n) (sessions_once n)
+  owned_objects_once : (n : ℕ) → IsOnce (service_of cs n).sessions
+  owned_objects_once n = subst IsOnce (st.agrees.services.clients.sessions n) (sessions_once n)
 
   -- no thing stands higher than as many generations as there may be classes
   abbrev height : Thing → ℕ
@@ -184,8 +184,8 @@ module _ (m : Machine) (s : State) (st : StandsFor m s) (sessions_once : Session
   lower : (r : Place) (o x : Object) (f : ℕ) → held cs r ≡ Some o → held cs (Field o.name f) ≡ Some x → height x.thing < height o.thing
   lower r o x f holds below = grind (arith, nat_tests, field_owner o.name f x below, same_Some, held_lives)
 
-  lower_seat : (r : Place) (o x : Object) (c : ℕ) → held cs r ≡ Some o → held cs (Elsewhere (Session o.name c)) ≡ Some x → height x.thing < height o.thing
-  lower_seat r o x c holds below = grind (arith, session_owner o.name c x below, held_lives)
+  lower_owned_object : (r : Place) (o x : Object) (c : ℕ) → held cs r ≡ Some o → held cs (Elsewhere (Session o.name c)) ≡ Some x → height x.thing < height o.thing
+  lower_owned_object r o x c holds below = grind (arith, session_owner o.name c x below, held_lives)
 
   -- ---- the way from a place up to an outer one
 
@@ -235,34 +235,34 @@ module _ (m : Machine) (s : State) (st : StandsFor m s) (sessions_once : Session
   split : (r q : Place) (e : Up s q) (x o : Object) → held cs q ≡ Some x → held cs r ≡ Some o →
       occurs r q e ≡ bit (o.name == x.name) + beneath_count o.thing (under_it o q e)
   split r (Field n f) (up_field y above there holds high few ends) x o on here =
-      let first = place_bit cs tidy (Field n f) r x o on here in
+      let first = place_bit cs no_duplicates (Field n f) r x o on here in
       let rest = split r above ends y o holds here in
       let fields = sum_add (λ k. bit ((o.name == n) && (k == f))) (λ k. occurs (Field o.name k) above ends) 8 in
       let one = sum_one (λ k. bit ((o.name == n) && (k == f))) f 8 few (λ k other. last_apart (o.name == n) (k == f) other) in
       let this : bit ((o.name == n) && (f == f)) ≡ bit (o.name == n) = ap (λ b. bit ((o.name == n) && b)) (eq-eqb f f refl) ∙ last_same (o.name == n) in
       let name = by_name r o y n there in
       let more = beneath_more o.thing (bit (o.name == n)) (under_it o above ends) (no_owner r o y n here there high) in
-      let seats = sum_of_same (λ c. 0 + occurs (Elsewhere (Session o.name c)) above ends) (λ c. occurs (Elsewhere (Session o.name c)) above ends)
+      let owned_chain = sum_of_same (λ c. 0 + occurs (Elsewhere (Session o.name c)) above ends) (λ c. occurs (Elsewhere (Session o.name c)) above ends)
       (service_of cs o.name).sessions (λ c. omega arith) in
       let all : bit (o.name == n) + under_it o above ends ≡ under_it o (Field n f) (up_field y above there holds high few ends) =
-      omega (arith, fields, one, this, seats) in
+      omega (arith, fields, one, this, owned_chain) in
       let under = ap (beneath_count o.thing) all in
       omega (arith, first, rest, name, more, under)
   split r (Elsewhere (Session n c)) (up_session y above there holds high within ends) x o on here =
       let q = Elsewhere (Session n c) in
-      let first = place_bit cs tidy q r x o on here in
+      let first = place_bit cs no_duplicates q r x o on here in
       let rest = split r above ends y o holds here in
-      let seats = sum_of_add (λ d. bit ((o.name == n) && (d == c))) (λ d. occurs (Elsewhere (Session o.name d)) above ends) (service_of cs o.name).sessions in
-      let one = one_seat (o.name == n) refl in
+      let owned_chain = sum_of_add (λ d. bit ((o.name == n) && (d == c))) (λ d. occurs (Elsewhere (Session o.name d)) above ends) (service_of cs o.name).sessions in
+      let one = one_owned_object (o.name == n) refl in
       let name = by_name r o y n there in
       let more = beneath_more o.thing (bit (o.name == n)) (under_it o above ends) (no_owner r o y n here there high) in
-      let all : bit (o.name == n) + under_it o above ends ≡ under_it o q (up_session y above there holds high within ends) = omega (arith, seats, one) in
+      let all : bit (o.name == n) + under_it o above ends ≡ under_it o q (up_session y above there holds high within ends) = omega (arith, owned_chain, one) in
       let under = ap (beneath_count o.thing) all in
       omega (arith, first, rest, name, more, under)
     where
-      one_seat : (b : Bool) → (o.name == n) ≡ b → sum_of (λ d. bit ((o.name == n) && (d == c))) (service_of cs o.name).sessions ≡ bit (o.name == n)
-      one_seat true is = grind (arith, nat_tests, sum_of_one)
-      one_seat false is = grind (arith, nat_tests, sum_of_none, bit)
+      one_owned_object : (b : Bool) → (o.name == n) ≡ b → sum_of (λ d. bit ((o.name == n) && (d == c))) (service_of cs o.name).sessions ≡ bit (o.name == n)
+      one_owned_object true is = grind (arith, nat_tests, sum_of_one)
+      one_owned_object false is = grind (arith, nat_tests, sum_of_none, bit)
   split r q (up_register deep small) x o on here = ends_here r q (up_register deep small) x o on here refl refl
   split r q (up_entry high) x o on here = ends_here r q (up_entry high) x o on here refl refl
   split r q (up_going deep) x o on here = ends_here r q (up_going deep) x o on here refl refl
@@ -284,7 +284,7 @@ module _ (m : Machine) (s : State) (st : StandsFor m s) (sessions_once : Session
       lower_there : (o : Object) → held cs r ≡ Some o → suc (height o.thing) ≤ suc fuel → (c : ℕ) (y : Option Object) →
           held cs (Elsewhere (Session o.name c)) ≡ y → held_height y ≤ fuel
       lower_there o is low c None there = omega arith
-      lower_there o is low c (Some y) there = let less = lower_seat r o y c is there in omega (arith, less, low)
+      lower_there o is low c (Some y) there = let less = lower_owned_object r o y c is there in omega (arith, less, low)
 
       below : (o : Object) → ℕ → List Owned
       below o f = tree cs fuel (further w (By_field f)) (held cs (Field o.name f))
@@ -296,15 +296,15 @@ module _ (m : Machine) (s : State) (st : StandsFor m s) (sessions_once : Session
           (o : Option Object) → held cs r ≡ o → held_height o ≤ suc fuel → lines_of x.name (tree cs (suc fuel) w o) ≡ occurs r q e
       go deeper None is low = sym (occurs_none r q e x on is)
       go deeper (Some o) is low =
-          let seats = (service_of cs o.name).sessions in
-          let owned = gathered (below o) 8 ++ flat_map (beyond o) seats in
+          let owned_chain = (service_of cs o.name).sessions in
+          let owned = gathered (below o) 8 ++ flat_map (beyond o) owned_chain in
           let counted_so = bit_more (o.name == x.name) (lines_of x.name (beneath o.thing owned)) in
-          let both = lines_append x.name (gathered (below o) 8) (flat_map (beyond o) seats) in
+          let both = lines_append x.name (gathered (below o) 8) (flat_map (beyond o) owned_chain) in
           let fields = lines_gathered x.name (below o) 8 in
-          let sessions = lines_flat x.name (beyond o) seats in
+          let sessions = lines_flat x.name (beyond o) owned_chain in
           let each = sum_same (λ f. lines_of x.name (below o f)) (λ f. occurs (Field o.name f) q e) 8
           (λ f less. deeper (further w (By_field f)) (Field o.name f) (lower_still o is low f (held cs (Field o.name f)) refl)) in
-          let every = sum_of_same (λ c. lines_of x.name (beyond o c)) (λ c. occurs (Elsewhere (Session o.name c)) q e) seats
+          let every = sum_of_same (λ c. lines_of x.name (beyond o c)) (λ c. occurs (Elsewhere (Session o.name c)) q e) owned_chain
           (λ c. deeper (further w (By_session c)) (Elsewhere (Session o.name c)) (lower_there o is low c (held cs (Elsewhere (Session o.name c))) refl)) in
           let under : lines_of x.name owned ≡ under_it o q e = omega (arith, both, fields, sessions, each, every) in
           let down = lines_beneath x.name o.thing owned ∙ ap (beneath_count o.thing) under in
@@ -325,13 +325,13 @@ module _ (m : Machine) (s : State) (st : StandsFor m s) (sessions_once : Session
       go : ((w : Way) (r : Place) → lines_of n (tree cs fuel w (held cs r)) ≡ 0) → (o : Option Object) → held cs r ≡ o → lines_of n (tree cs (suc fuel) w o) ≡ 0
       go deeper None is = refl
       go deeper (Some o) is =
-          let seats = (service_of cs o.name).sessions in
-          let owned = gathered (below o) 8 ++ flat_map (beyond o) seats in
-          let other = ne_eqb o.name n (λ same. none-some o (sym none ∙ ap (named cs) (sym same) ∙ held_lives cs r o tidy is)) in
-          let both = lines_append n (gathered (below o) 8) (flat_map (beyond o) seats) in
+          let owned_chain = (service_of cs o.name).sessions in
+          let owned = gathered (below o) 8 ++ flat_map (beyond o) owned_chain in
+          let other = ne_eqb o.name n (λ same. none-some o (sym none ∙ ap (named cs) (sym same) ∙ held_lives cs r o no_duplicates is)) in
+          let both = lines_append n (gathered (below o) 8) (flat_map (beyond o) owned_chain) in
           let fields = lines_gathered n (below o) 8 ∙ sum_none (λ f. lines_of n (below o f)) 8 (λ f less. deeper (further w (By_field f)) (Field o.name f)) in
-          let sessions = lines_flat n (beyond o) seats
-          ∙ sum_of_none (λ c. lines_of n (beyond o c)) seats (λ c among. deeper (further w (By_session c)) (Elsewhere (Session o.name c))) in
+          let sessions = lines_flat n (beyond o) owned_chain
+          ∙ sum_of_none (λ c. lines_of n (beyond o c)) owned_chain (λ c among. deeper (further w (By_session c)) (Elsewhere (Session o.name c))) in
           let under : lines_of n owned ≡ 0 = omega (arith, both, fields, sessions) in
           ap (λ b. cond b (suc (lines_of n (beneath o.thing owned))) (lines_of n (beneath o.thing owned))) other ∙ lines_beneath n o.thing owned
           ∙ beneath_zero o.thing (lines_of n owned) under
@@ -383,7 +383,7 @@ module _ (m : Machine) (s : State) (st : StandsFor m s) (sessions_once : Session
   met n = ap (λ b. bit (b && true)) (eq-eqb n n refl)
 
   -- each way ends at just one of them, or at a queue, and goes through no other
-  weigh_one : (q : Place) (e : Up s q) → weigh (λ r. occurs r q e) ≡ bit (ends_told e)
+  weigh_one : (q : Place) (e : Up s q) → weigh (λ r. occurs r q e) ≡ bit (ends_reported e)
   weigh_one (Field n f) (up_field y above there holds high few ends) = grind (arith, weigh_same, weigh_one above ends)
   weigh_one (Elsewhere (Session n c)) (up_session y above there holds high within ends) = grind (arith, weigh_same, weigh_one above ends)
   weigh_one (Register D I) (up_register deep small) =
@@ -449,7 +449,7 @@ module _ (m : Machine) (s : State) (st : StandsFor m s) (sessions_once : Session
 
   -- a way, and where it ends: a queue alone holds what waits in it
   abbrev Leads : Place → Type 0
-  Leads r = (e : Up s r) × (ends_told e ≡ not (is_queue r))
+  Leads r = (e : Up s r) × (ends_reported e ≡ not (is_queue r))
 
   -- what waits in a queue is a message, which owns nothing
   message_there : (n k : ℕ) (o : Object) → held cs (Elsewhere (Queued n k)) ≡ Some o → is_object o.thing ≡ true → ⊥
@@ -474,14 +474,14 @@ module _ (m : Machine) (s : State) (st : StandsFor m s) (sessions_once : Session
   up (suc fuel) (Field n f) x holds high =
       let few = field_small (Field n f) x holds n f (cell_at parts.cells n) refl (number_there (Field n f) x holds) in
       let owner = field_owner n f x holds in
-      let at = owner_there cs tidy n owner.0 owner.1 in
+      let at = owner_there cs no_duplicates n owner.0 owner.1 in
       let less = owner.2 in
       let above = is_high x.thing owner.0.thing less in
       let rest = up fuel at.0 owner.0 at.2 (omega (arith, less, high)) in
       (up_field owner.0 at.0 owner.1 at.2 above few rest.0, rest.1 ∙ ap not (no_queue at.0 owner.0 at.2 above))
   up (suc fuel) (Elsewhere (Session n c)) x holds high =
       let owner = session_owner n c x holds in
-      let at = owner_there cs tidy n owner.0 owner.1 in
+      let at = owner_there cs no_duplicates n owner.0 owner.1 in
       let less = owner.2 in
       let above = is_high x.thing owner.0.thing less in
       let rest = up fuel at.0 owner.0 at.2 (omega (arith, less, high)) in
@@ -501,10 +501,10 @@ module _ (m : Machine) (s : State) (st : StandsFor m s) (sessions_once : Session
       none : weigh (λ r. 0) ≡ 0
       none = grind (arith, nat_tests, sum_none, sum_to)
   once n (Some x) is =
-      let owner = owner_there cs tidy n x is in
+      let owner = owner_there cs no_duplicates n x is in
       let e = up 257 owner.0 x owner.2 (omega arith) in
       ap (λ k. lines_of k (owners s)) (sym (named_name cs n x is)) ∙ lines_weighed x.name (λ r. occurs r owner.0 e.0)
       (λ outer r. all_hang outer r owner.0 e.0 x owner.2) ∙ weigh_one owner.0 e.0 ∙ ap bit e.1 ∙ ap (λ w. cond (not (waits_in w)) 1 0) (sym owner.1)
 
-pub told_once : ToldOnce
-told_once m s st agrees sessions_once n = once m s st sessions_once n (named s.cells n) refl
+pub reported_once : ReportedOnce
+reported_once m s st agrees sessions_once n = once m s st sessions_once n (named s.cells n) refl

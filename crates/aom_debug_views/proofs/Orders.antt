@@ -3,7 +3,7 @@ use Rattle.std.proofs.lemmas.Bool.Decides.{nat_tests}
 use Rattle.std.proofs.Common.{◌≡◌, ◌∙◌, ◌⊎◌, ℕ, suc, List, [], ◌∷◌, Option, IsSome, refl, sym, ap, subst, arith}
 use Rattle.std.specs.List.{Contains}
 use Rattle.std.specs.Prelude.{AllPairs}
-use Rattle.aom_active.specs.Agrees.{GoesBefore}
+use Rattle.aom_active_objects.specs.Agrees.{GoesBefore}
 use Rattle.aom_debug_views.proofs.SchedulerLemmas.{pairs-head, pairs-tail}
 use Rattle.aom_semantics.specs.Places.{Cell, Request, requested}
 use Rattle.aom_debug_views.specs.Actives.{InOrderOfChoice}

@@ -12,27 +12,27 @@ use Rattle.aom_image.specs.declared.method.Argument.TheVariants.{Word as A_word,
 use Rattle.aom_instructions.specs.declared.instr.Instr.{Instr}
 use Rattle.aom_instructions.specs.declared.instr.Target.{Target}
 use Rattle.aom_cells.specs.Heap.{null}
-use Rattle.aom_debug_views.proofs.ClassesLemmas.{of_method}
+use Rattle.aom_debug_views.proofs.LinkConditionsLemmas.{of_method}
 use Rattle.aom_frames.specs.declared.frame.Frame.{Frame as Machine_frame}
 use Rattle.aom_frames.specs.declared.task.Task.TheVariants.{Run as Runs_frame}
-use Rattle.aom_rules.specs.Calls.{while_called}
-use Rattle.aom_rules.specs.Ways.{News}
-use Rattle.aom_rules.specs.Ways.{Ways}
-use Rattle.aom_shape.specs.Arguments.{arguments_moved}
-use Rattle.aom_shape.specs.Kinds.{is_object_or_null, is_unowning, readied, register, set_register}
-use Rattle.aom_shape.specs.Order.{SaysNoMore, Weaker, alike, maybe_null, maybe_own, unset_null, unset_word}
-use Rattle.aom_shape.specs.Shape.{Shape}
-use Rattle.aom_shape.specs.declared.kind.Kind.{Kind}
-use Rattle.aom_shape.specs.declared.kind.Kind.TheVariants.{Maybe, Null, Own, Unset}
+use Rattle.aom_typing_rules.specs.Calls.{while_called}
+use Rattle.aom_typing_rules.specs.Ways.{News}
+use Rattle.aom_typing_rules.specs.Ways.{Ways}
+use Rattle.aom_abstract_state.specs.Arguments.{arguments_moved}
+use Rattle.aom_abstract_state.specs.Kinds.{is_object_or_null, is_unowning, made_ready, register, set_register}
+use Rattle.aom_abstract_state.specs.Order.{IsImpliedBy, Weaker, alike, maybe_null, maybe_own, unset_null, unset_word}
+use Rattle.aom_abstract_state.specs.AbstractState.{AbstractState}
+use Rattle.aom_abstract_state.specs.declared.kind.Kind.{Kind}
+use Rattle.aom_abstract_state.specs.declared.kind.Kind.TheVariants.{Maybe, Null, Own, Unset}
 use Rattle.aom_semantics.specs.Owned.{over}
 use Rattle.aom_semantics.specs.Places.{Object, Register, held}
 use Rattle.aom_semantics.specs.State.{Frame, Run, State, Task}
-use Rattle.aom_debug_views.proofs.SemanticsLemmas.{at-put_at}
-use Rattle.aom_typings.specs.Strongest.{IsShapeAt}
+use Rattle.aom_debug_views.proofs.SemanticsLemmas.{at-set_extending}
+use Rattle.aom_static_bounds.specs.Strongest.{IsShapeAt}
 use Rattle.aom_machine_state.specs.declared.parts.Parts.{Parts}
 use Rattle.aom_machine_state.specs.Agrees.{SameFrame, number}
 use Rattle.aom_machine_state.specs.Places.{value}
-use Rattle.aom_machine_state.specs.Stands.{Machine, Stands, StandsFor}
+use Rattle.aom_machine_state.specs.Stands.{MachineModel, Stands, Refines}
 use Rattle.aom_machine_state.specs.Waits.{waiting_by, waiting_for, while_waiting}
 use Rattle.aom_machine.specs.Agreement.{AgreesInAll, NumberSays, RegistersAgree, state_under}
 use Rattle.aom_debug_views.specs.Owners.{ShowsAll, ShowsIf, may_own}
@@ -41,29 +41,29 @@ use Rattle.aom_debug_views.proofs.Tasks.{frame_there, parted, register_value}
 -- ---- a frame that waits: what a register may own is what it may own at its place, or gone
 
 abbrev Keeps : Kind → Kind → Type 0
-Keeps k k' = (k' ≡ Null) ⊎ (readied k' ≡ readied k)
+Keeps k k' = (k' ≡ Null) ⊎ (made_ready k' ≡ made_ready k)
 
-readied_null : (k : Kind) → readied k ≡ Null → k ≡ Null
-readied_null k is = grind arith
+made_ready_null : (k : Kind) → made_ready k ≡ Null → k ≡ Null
+made_ready_null k is = grind arith
 
-readied_twice : (k : Kind) → readied (readied k) ≡ readied k
-readied_twice x = grind arith
+made_ready_twice : (k : Kind) → made_ready (made_ready k) ≡ made_ready k
+made_ready_twice x = grind arith
 
 keeps_on : (a b c : Kind) → Keeps a b → Keeps b c → Keeps a c
-keeps_on a b c first x = grind (arith, nat_tests, readied_null c)
+keeps_on a b c first x = grind (arith, nat_tests, made_ready_null c)
 
-keeps_set : (sh : Shape) (r j : ℕ) (k : Kind) → Keeps (register sh r) k → Keeps (register sh j) (register (set_register sh r k) j)
-keeps_set sh r j k keeps = grind (arith, nat_tests, at-put_at Unset sh.registers r j k, eqb-true r j)
+keeps_set : (sh : AbstractState) (r j : ℕ) (k : Kind) → Keeps (register sh r) k → Keeps (register sh j) (register (set_register sh r k) j)
+keeps_set sh r j k keeps = grind (arith, nat_tests, at-set_extending Unset sh.registers r j k, eqb-true r j)
 
-moved_keeps : (xs : List Argument) (first j : ℕ) (sh : Shape) → Keeps (register sh j) (register (arguments_moved xs first sh) j)
+moved_keeps : (xs : List Argument) (first j : ℕ) (sh : AbstractState) → Keeps (register sh j) (register (arguments_moved xs first sh) j)
 moved_keeps [] first j sh = inr refl
 moved_keeps (A_word ∷ xs) first j sh = moved_keeps xs (suc first) j sh
 moved_keeps (An_own t ∷ xs) first j sh = grind (arith, keeps_set sh first j Null, moved_keeps xs)
 
-called_keeps : (target : Target) (class : Option ℕ) (ended j : ℕ) (sh : Shape) → Keeps (register sh j) (register (while_called target class ended sh) j)
-called_keeps x class ended j sh = grind (arith, nat_tests, keeps_set sh, readied_twice)
+called_keeps : (target : Target) (class : Option ℕ) (ended j : ℕ) (sh : AbstractState) → Keeps (register sh j) (register (while_called target class ended sh) j)
+called_keeps x class ended j sh = grind (arith, nat_tests, keeps_set sh, made_ready_twice)
 
-module _ (p : Image) (j : ℕ) (sh : Shape) where
+module _ (p : Image) (j : ℕ) (sh : AbstractState) where
   call_keeps : (target : Target) (m first ended : ℕ) →
       Keeps (register sh j) (register (while_called target (method_class p m) ended (arguments_moved (arguments_of p m) first sh)) j)
   call_keeps target m first ended = grind (arith, nat_tests, keeps_on, moved_keeps, called_keeps target)
@@ -77,23 +77,23 @@ module _ (p : Image) (j : ℕ) (sh : Shape) where
   waiting_keeps : (i : Option Instr) → Keeps (register sh j) (register (while_waiting p i sh) j)
   waiting_keeps x = grind (arith, nat_tests, ways_keep)
 
-state_keeps : (p : Image) (above : List Task) (fr : Frame) (sh : Shape) (j : ℕ) → Keeps (register sh j) (register (state_under p above fr sh) j)
+state_keeps : (p : Image) (above : List Task) (fr : Frame) (sh : AbstractState) (j : ℕ) → Keeps (register sh j) (register (state_under p above fr sh) j)
 state_keeps p [] fr sh j = inr refl
 state_keeps p (task ∷ above) fr sh j = waiting_keeps p j sh (instr_at p fr.method fr.place)
 
 -- ---- what a kind says of a register's number
 
-readied_object : (k : Kind) → is_object_or_null (readied k) ≡ is_object_or_null k
-readied_object x = grind arith
+made_ready_object : (k : Kind) → is_object_or_null (made_ready k) ≡ is_object_or_null k
+made_ready_object x = grind arith
 
-readied_none : (k : Kind) → is_unowning (readied k) ≡ is_unowning k
-readied_none x = grind arith
+made_ready_none : (k : Kind) → is_unowning (made_ready k) ≡ is_unowning k
+made_ready_none x = grind arith
 
 keeps_object : (a b : Kind) → Keeps a b → is_object_or_null a ≡ true → is_object_or_null b ≡ true
-keeps_object a b x is = grind (arith, nat_tests, readied_object b, readied_object a)
+keeps_object a b x is = grind (arith, nat_tests, made_ready_object b, made_ready_object a)
 
 keeps_none : (a b : Kind) → Keeps a b → is_unowning a ≡ true → is_unowning b ≡ true
-keeps_none a b x is = grind (arith, nat_tests, readied_none b, readied_none a)
+keeps_none a b x is = grind (arith, nat_tests, made_ready_none b, made_ready_none a)
 
 -- the state that says no more says of each register whether it may own
 weaker_owns : (a b : Kind) → Weaker a b → (may_own a ≡ true → is_object_or_null b ≡ true) × (may_own a ≡ false → is_unowning b ≡ true)
@@ -114,11 +114,11 @@ none_shown p x n o is says = grind arith
 -- ---- the registers of a frame
 
 module _ (p : Image) (m : Parts) (agrees : AgreesInAll (record { image = p; parts = m })) where
-  abbrev M : Machine
+  abbrev M : MachineModel
   M = record { image = p; parts = m }
 
   -- the agreement of a frame that stands at a depth
-  agreed : (s : State) (st : StandsFor M s) (k : ℕ) (fr : Frame) → over s.tasks k ≡ Some (Run fr) →
+  agreed : (s : State) (st : Refines M s) (k : ℕ) (fr : Frame) → over s.tasks k ≡ Some (Run fr) →
       (above : List Task) × RegistersAgree p (agrees s st).typing m s above fr k
   agreed s st k fr there = grind (arith, nat_tests, parted s.tasks k (Run fr) there)
 
@@ -128,7 +128,7 @@ module _ (p : Image) (m : Parts) (agrees : AgreesInAll (record { image = p; part
       let fr = frame_there p m stands.0 stands.1 k f there in
       method_there stands.0 stands.1 k f fr.0 fr.1 fr.2
     where
-      method_there : (s : State) → StandsFor M s → (k : ℕ) (f : Machine_frame) (fr : Frame) → over s.tasks k ≡ Some (Run fr) → SameFrame f fr →
+      method_there : (s : State) → Refines M s → (k : ℕ) (f : Machine_frame) (fr : Frame) → over s.tasks k ≡ Some (Run fr) → SameFrame f fr →
           IsSome (method_at p f.method)
       method_there s st k f fr there same =
           let a = agreed s st k fr there in
@@ -137,9 +137,9 @@ module _ (p : Image) (m : Parts) (agrees : AgreesInAll (record { image = p; part
           ap (λ n. is_some (method_at p n)) same.method ∙ ap is_some found.1
 
   -- the strongest state of its place says no more than the state that agrees
-  reached : (s : State) (st : StandsFor M s) (k : ℕ) (f : Machine_frame) (fr : Frame) (found : Option Shape) →
+  reached : (s : State) (st : Refines M s) (k : ℕ) (f : Machine_frame) (fr : Frame) (found : Option AbstractState) →
       over s.tasks k ≡ Some (Run fr) → SameFrame f fr → IsShapeAt p f.method f.place found →
-      (above : List Task) × (agree : RegistersAgree p (agrees s st).typing m s above fr k) × (next : Shape) × (found ≡ Some next) × SaysNoMore next agree.shape
+      (above : List Task) × (agree : RegistersAgree p (agrees s st).typing m s above fr k) × (next : AbstractState) × (found ≡ Some next) × IsImpliedBy next agree.shape
   reached s st k f fr found there same shape =
       let a = agreed s st k fr there in
       let passes = (agrees s st).strongest.typed.each fr.method fr.place a.1.shape a.1.typed in
@@ -147,16 +147,16 @@ module _ (p : Image) (m : Parts) (agrees : AgreesInAll (record { image = p; part
       let here = (agrees s st).strongest.each fr.method (ap is_some method.1) in
       let at_frame : IsShapeAt p fr.method fr.place found = grind (arith, nat_tests) in
       let meets = (here.least at_frame.states at_frame.strongest.typed).each fr.place a.1.shape a.1.typed in
-      (a.0, a.1, meets.next, at_frame.there ∙ meets.there, meets.no_more)
+      (a.0, a.1, meets.next, at_frame.there ∙ meets.there, meets.implied)
 
   -- no frame stands where none is reached
-  pub is_reached : (s : State) → StandsFor M s → (k : ℕ) (f : Machine_frame) → over m.stack.tasks k ≡ Some (Runs_frame f) → IsShapeAt p f.method f.place None → ⊥
+  pub is_reached : (s : State) → Refines M s → (k : ℕ) (f : Machine_frame) → over m.stack.tasks k ≡ Some (Runs_frame f) → IsShapeAt p f.method f.place None → ⊥
   is_reached s st k f there shape =
       let fr = frame_there p m s st k f there in
       let r = reached s st k f fr.0 None fr.1 fr.2 shape in
       none-some r.2 r.3
 
-  register_kind : (s : State) (st : StandsFor M s) (k i : ℕ) (f : Machine_frame) (sh : Shape) → over m.stack.tasks k ≡ Some (Runs_frame f) →
+  register_kind : (s : State) (st : Refines M s) (k i : ℕ) (f : Machine_frame) (sh : AbstractState) → over m.stack.tasks k ≡ Some (Runs_frame f) →
       IsShapeAt p f.method f.place (Some sh) → (kept : Kind) × ((may_own (register sh i) ≡ true → is_object_or_null kept ≡ true) ×
       (may_own (register sh i) ≡ false → is_unowning kept ≡ true)) × NumberSays p kept (value m (Register k i)) (held s.cells (Register k i))
   register_kind s st k i f sh there shape =
@@ -171,7 +171,7 @@ module _ (p : Image) (m : Parts) (agrees : AgreesInAll (record { image = p; part
       )
 
   -- so each register is shown, or owns nothing
-  pub frame_shown : (k : ℕ) (f : Machine_frame) (sh : Shape) → over m.stack.tasks k ≡ Some (Runs_frame f) → IsShapeAt p f.method f.place (Some sh) →
+  pub frame_shown : (k : ℕ) (f : Machine_frame) (sh : AbstractState) → over m.stack.tasks k ≡ Some (Runs_frame f) → IsShapeAt p f.method f.place (Some sh) →
       ShowsAll M sh f.registers k
   frame_shown k f sh there shape = record { each = λ i. by_kind i (may_own (register sh i)) refl }
     where

@@ -17,12 +17,12 @@ use Rattle.aom_semantics.specs.State.{Item, State}
 use Rattle.aom_debug_views.proofs.SemanticsLemmas.{held_lives}
 use Rattle.aom_machine_state.specs.declared.parts.Parts.{Parts}
 use Rattle.aom_machine_state.specs.Agrees.{SameItem, SameItems, number, thing_in, thing_of}
-use Rattle.aom_machine_state.specs.Stands.{StandsFor}
+use Rattle.aom_machine_state.specs.Stands.{Refines}
 use Rattle.aom_debug_views.proofs.MachineStateLemmas.{by_items, same_items_length}
-use Rattle.aom_debug_words.specs.declared.answer.Answer.{Answer}
+use Rattle.aom_debug_protocol.specs.declared.answer.Answer.{Answer}
 use Rattle.aom_debug_views.proofs.Over.{BothOver, one_over}
 use Rattle.aom_debug_views.specs.Owners.{entries_of, is_entry}
-use Rattle.aom_debug_views.specs.Sights.{class_of, held_answer, item_answer}
+use Rattle.aom_debug_views.specs.CellViews.{class_of, held_answer, item_answer}
 
 -- ---- what stands over so many others
 
@@ -38,7 +38,7 @@ module _ {A : Type 0} where
 class_shown : (c : Option Machine_cell) (o : Option Object) → thing_in c ≡ thing_of o → class_of_cell c ≡ class_of o
 class_shown c x is = grind (arith, nat_tests, same_Some)
 
-module _ (p : Image) (m : Parts) (s : State) (st : StandsFor (record { image = p; parts = m }) s) where
+module _ (p : Image) (m : Parts) (s : State) (st : Refines (record { image = p; parts = m }) s) where
   -- the class of the cell of a name
   pub class_named : (n : ℕ) → class_at m.cells n ≡ class_of (named s.cells n)
   class_named n = class_shown (cell_at m.cells n) (named s.cells n) (st.agrees.cells.things n)
@@ -90,14 +90,14 @@ entry_number (i ∷ is) k n there = go (entry_number is k n) (length is == k) th
         cond b (owned_by i) (entry_in is k) ≡ n
     go below x y = grind (arith, nat_tests, same_Some)
 
-module _ (p : Image) (m : Parts) (s : State) (st : StandsFor (record { image = p; parts = m }) s) where
+module _ (p : Image) (m : Parts) (s : State) (st : Refines (record { image = p; parts = m }) s) where
   -- so is an item told as that of the state
-  pub item_told : (k : ℕ) (o : Option Machine_item) → o ≡ over m.entries.items k → answer_at m.cells o ≡ item_answer s.cells k (over s.items k)
-  item_told k o there = ap (answer_at m.cells) there ∙ same_answer m.cells s.cells k (over m.entries.items k) (over s.items k) (both_over k m.entries.items
+  pub item_reported : (k : ℕ) (o : Option Machine_item) → o ≡ over m.entries.items k → answer_at m.cells o ≡ item_answer s.cells k (over s.items k)
+  item_reported k o there = ap (answer_at m.cells) there ∙ same_answer m.cells s.cells k (over m.entries.items k) (over s.items k) (both_over k m.entries.items
       s.items st.agrees.entries) (λ n object. class_held p m s st (Entry k) n (sym (entry_number m.entries.items k n object) ∙ st.agrees.values (Entry k)))
 
   pub as_many_items : length m.entries.items ≡ length s.items
   as_many_items = same_items_length m.entries.items s.items st.agrees.entries
 
-  pub entries_told : (k : ℕ) (o : Option Machine_item) → o ≡ over m.entries.items k → entries_over o ≡ cond (is_entry (over s.items k)) 1 0
-  entries_told k o is = ap entries_over is ∙ entry_counted (over m.entries.items k) (over s.items k) (both_over k m.entries.items s.items st.agrees.entries)
+  pub entries_reported : (k : ℕ) (o : Option Machine_item) → o ≡ over m.entries.items k → entries_over o ≡ cond (is_entry (over s.items k)) 1 0
+  entries_reported k o is = ap entries_over is ∙ entry_counted (over m.entries.items k) (over s.items k) (both_over k m.entries.items s.items st.agrees.entries)

@@ -4,9 +4,9 @@ use Rattle.std.proofs.lemmas.Option.{none-some, same_Some}
 use Rattle.aom_text.specs.Words.{first_of, others_of}
 use Rattle.aom_text.specs.declared.text.Statement.{Statement}
 use Rattle.aom_transcript.specs.Text.{ended}
-use Rattle.aom_explain.specs.Sources.{spaced}
-use Rattle.aom_debug_names.specs.Answers.{behind, statement_text}
-use Rattle.aom_debug_views.specs.Telling.{tail_text}
+use Rattle.aom_diagnostics.specs.Sources.{spaced}
+use Rattle.aom_debug_symbols.specs.Answers.{behind, statement_text}
+use Rattle.aom_debug_views.specs.Reporting.{tail_text}
 
 spaced_next : (ws : List (List ℕ)) (w : List ℕ) → Some w ≡ first_of ws → spaced ws ≡ (32 ∷ []) ++ (w ++ spaced (others_of ws))
 spaced_next [] w is = absurd (none-some w (sym is))

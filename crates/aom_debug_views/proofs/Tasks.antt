@@ -20,7 +20,7 @@ use Rattle.aom_frames.specs.Items.{entry_in}
 use Rattle.aom_machine_state.specs.Agrees.{SameFrame, SameTask, SameTasks, number, word_in, word_of}
 use Rattle.aom_machine_state.specs.Agrees.{Represents}
 use Rattle.aom_machine_state.specs.Places.{going_in, going_of, register_in, value}
-use Rattle.aom_machine_state.specs.Stands.{Machine, StandsFor}
+use Rattle.aom_machine_state.specs.Stands.{MachineModel, Refines}
 use Rattle.aom_debug_views.proofs.MachineStateLemmas.{by_tasks, same_length}
 use Rattle.aom_debug_views.proofs.MachineInstructionsLemmas.{not_null}
 use Rattle.aom_debug_views.proofs.Over.{BothOver, one_over, read_over, read_there}
@@ -101,36 +101,36 @@ going_there ms k = read_there going_of null (λ ts. going_in ts k) k refl (λ t 
 no_frame : (o : Option Machine_task) (u : Option Task) (i : ℕ) → SameOver o u → frame_over o ≡ None → (register_over o i ≡ null) × (word_over u i ≡ None)
 no_frame o u i same is = grind arith
 
-pub number_told : (m : Parts) (k : ℕ) (o : Option Machine_task) → o ≡ slice_get (reverse m.stack.tasks) k → going_over o ≡ going_in m.stack.tasks k
-number_told m k o is = ap going_over (is ∙ over_from_bottom m.stack.tasks k) ∙ sym (going_there m.stack.tasks k)
+pub number_reported : (m : Parts) (k : ℕ) (o : Option Machine_task) → o ≡ slice_get (reverse m.stack.tasks) k → going_over o ≡ going_in m.stack.tasks k
+number_reported m k o is = ap going_over (is ∙ over_from_bottom m.stack.tasks k) ∙ sym (going_there m.stack.tasks k)
 
 module _ (p : Image) (m : Parts) where
   abbrev tasks : List Machine_task
   tasks = m.stack.tasks
 
-  abbrev M : Machine
+  abbrev M : MachineModel
   M = record { image = p; parts = m }
 
-  pub same_over : (s : State) → StandsFor M s → (k : ℕ) → SameOver (over tasks k) (over s.tasks k)
+  pub same_over : (s : State) → Refines M s → (k : ℕ) → SameOver (over tasks k) (over s.tasks k)
   same_over s st k = both_over k tasks s.tasks st.agrees.tasks
 
-  pub as_many_tasks : (s : State) → StandsFor M s → length tasks ≡ length s.tasks
+  pub as_many_tasks : (s : State) → Refines M s → length tasks ≡ length s.tasks
   as_many_tasks s st = same_length tasks s.tasks st.agrees.tasks
 
   -- the frame at a depth
-  pub frame_there : (s : State) → StandsFor M s → (k : ℕ) (f : Machine_frame) → over tasks k ≡ Some (Runs_frame f) →
+  pub frame_there : (s : State) → Refines M s → (k : ℕ) (f : Machine_frame) → over tasks k ≡ Some (Runs_frame f) →
       (fr : Frame) × (over s.tasks k ≡ Some (Run fr)) × SameFrame f fr
   frame_there s st k f there = frame_by f (over s.tasks k) (subst (λ o. SameOver o (over s.tasks k)) there (same_over s st k))
 
   pub frame_stands : (k : ℕ) (f : Machine_frame) → Some f ≡ frame_over (over tasks k) → over tasks k ≡ Some (Runs_frame f)
   frame_stands k f is = frame_found (over tasks k) f (sym is)
 
-  pub frames_told : (s : State) → StandsFor M s → (k : ℕ) → is_some (frame_over (over tasks k)) ≡ is_frame (over s.tasks k)
-  frames_told s st k = (counted (over tasks k) (over s.tasks k) (same_over s st k)).0
+  pub frames_reported : (s : State) → Refines M s → (k : ℕ) → is_some (frame_over (over tasks k)) ≡ is_frame (over s.tasks k)
+  frames_reported s st k = (counted (over tasks k) (over s.tasks k) (same_over s st k)).0
 
-  pub goings_told : (s : State) → StandsFor M s → (k : ℕ) (o : Option Machine_task) → o ≡ slice_get (reverse tasks) k →
+  pub goings_reported : (s : State) → Refines M s → (k : ℕ) (o : Option Machine_task) → o ≡ slice_get (reverse tasks) k →
       goings_over o ≡ cond (is_going (over s.tasks k)) 1 0
-  goings_told s st k o is = ap goings_over (is ∙ over_from_bottom tasks k) ∙ (counted (over tasks k) (over s.tasks k) (same_over s st k)).1
+  goings_reported s st k o is = ap goings_over (is ∙ over_from_bottom tasks k) ∙ (counted (over tasks k) (over s.tasks k) (same_over s st k)).1
 
   -- the number in a register, and that of what goes
   pub register_value : (k i : ℕ) (f : Machine_frame) → over tasks k ≡ Some (Runs_frame f) → value m (Register k i) ≡ slice_index_or f.registers i null
@@ -153,12 +153,12 @@ module _ (p : Image) (m : Parts) where
   pub no_registers : (k : ℕ) → None ≡ frame_over (over tasks k) → (i : ℕ) → ShowsNone M (Register k i)
   no_registers k none i = record { each = λ s st. by_null s st (held s.cells (Register k i)) refl (number_of s st) }
     where
-      number_of : (s : State) → StandsFor M s → null ≡ number (held s.cells (Register k i))
+      number_of : (s : State) → Refines M s → null ≡ number (held s.cells (Register k i))
       number_of s st =
           let both = no_frame (over tasks k) (over s.tasks k) i (same_over s st k) (sym none) in
           let word = word_there s.tasks k i ∙ both.1 in
           sym (register_there tasks k i ∙ both.0)
           ∙ subst (λ w. Represents (value m (Register k i)) w (held s.cells (Register k i))) word (st.agrees.values (Register k i))
 
-      by_null : (s : State) → StandsFor M s → (o : Option Object) → held s.cells (Register k i) ≡ o → null ≡ number (held s.cells (Register k i)) → o ≡ None
+      by_null : (s : State) → Refines M s → (o : Option Object) → held s.cells (Register k i) ≡ o → null ≡ number (held s.cells (Register k i)) → o ≡ None
       by_null s st x holds is = grind (arith, not_null p m st.typing s st.typed st.agrees (Register k i))

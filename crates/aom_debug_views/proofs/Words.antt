@@ -15,38 +15,38 @@ use Rattle.aom_roles.specs.Tests.{AllTrue}
 use Rattle.aom_cells.specs.Heap.{null}
 use Rattle.aom_frames.specs.declared.frame.Frame.{Frame as Machine_frame}
 use Rattle.aom_frames.specs.declared.task.Task.TheVariants.{Run as Runs_frame}
-use Rattle.aom_rules.specs.Calls.{each_argument, while_called}
-use Rattle.aom_rules.specs.Rules.{rule_needs, ways_of}
-use Rattle.aom_rules.specs.Typing.{Typing, shape_at}
-use Rattle.aom_rules.specs.Ways.{Called, Caught, Goes_on, Holding, Ways}
-use Rattle.aom_shape.specs.Arguments.{arguments_moved}
-use Rattle.aom_shape.specs.Kinds.{register, set_register}
-use Rattle.aom_shape.specs.Order.{Weaker}
-use Rattle.aom_shape.specs.Shape.{Shape}
+use Rattle.aom_typing_rules.specs.Calls.{each_argument, while_called}
+use Rattle.aom_typing_rules.specs.Rules.{rule_needs, ways_of}
+use Rattle.aom_typing_rules.specs.Typing.{Typing, shape_at}
+use Rattle.aom_typing_rules.specs.Ways.{Called, Caught, Goes_on, Holding, Ways}
+use Rattle.aom_abstract_state.specs.Arguments.{arguments_moved}
+use Rattle.aom_abstract_state.specs.Kinds.{register, set_register}
+use Rattle.aom_abstract_state.specs.Order.{Weaker}
+use Rattle.aom_abstract_state.specs.AbstractState.{AbstractState}
 use Rattle.aom_roles.specs.Tables.{at}
-use Rattle.aom_shape.specs.declared.kind.Kind.{Kind}
-use Rattle.aom_shape.specs.declared.kind.Kind.TheVariants.{Null, Unset, Word}
+use Rattle.aom_abstract_state.specs.declared.kind.Kind.{Kind}
+use Rattle.aom_abstract_state.specs.declared.kind.Kind.TheVariants.{Null, Unset, Word}
 use Rattle.aom_semantics.specs.Owned.{over}
 use Rattle.aom_semantics.specs.Places.{Object, Register, held}
 use Rattle.aom_semantics.specs.State.{Frame, Run, State, Task, word}
 use Rattle.aom_debug_views.proofs.SafetyLemmas.{all_parts}
-use Rattle.aom_debug_views.proofs.SemanticsLemmas.{at-put_at}
-use Rattle.aom_typings.specs.Shapes.{Shapes}
-use Rattle.aom_typings.specs.Strongest.{IsMethodStrongest, IsShapeAt, IsStrongest}
+use Rattle.aom_debug_views.proofs.SemanticsLemmas.{at-set_extending}
+use Rattle.aom_static_bounds.specs.Shapes.{Shapes}
+use Rattle.aom_static_bounds.specs.Strongest.{IsMethodStrongest, IsShapeAt, IsStrongest}
 use Rattle.aom_machine_state.specs.declared.parts.Parts.{Parts}
 use Rattle.aom_machine_state.specs.Agrees.{Represents, SameFrame}
 use Rattle.aom_machine_state.specs.Places.{value}
-use Rattle.aom_machine_state.specs.Stands.{Machine, StandsFor}
+use Rattle.aom_machine_state.specs.Stands.{MachineModel, Refines}
 use Rattle.aom_machine_state.specs.Waits.{KindSays, waiting_by, while_waiting}
 use Rattle.aom_debug_views.proofs.MachineLemmas.{runs_typed, waits_under}
-use Rattle.aom_debug_views.proofs.TypingsLemmas.{kind_is}
+use Rattle.aom_debug_views.proofs.StaticBoundsLemmas.{kind_is}
 use Rattle.aom_debug_views.specs.Frames.{ShowsWord}
 use Rattle.aom_debug_views.proofs.Tasks.{frame_there, parted, register_value, word_over, word_there}
 
 -- ---- two strongest typings of a method say the same of each register
 
 same_shapes : (p : Image) (m : ℕ) (a b : Shapes) → IsMethodStrongest p m a → IsMethodStrongest p m b →
-    (pc : ℕ) (sh : Shape) → at None a pc ≡ Some sh → (next : Shape) × (at None b pc ≡ Some next) × ((i : ℕ) → register next i ≡ register sh i)
+    (pc : ℕ) (sh : AbstractState) → at None a pc ≡ Some sh → (next : AbstractState) × (at None b pc ≡ Some next) × ((i : ℕ) → register next i ≡ register sh i)
 same_shapes p m a b x y pc sh there =
     let down = (x.least b y.typed).each pc sh there in
     let up = (y.least a x.typed).each pc down.next down.there in
@@ -54,29 +54,29 @@ same_shapes p m a b x y pc sh there =
       down.next,
       down.there,
       λ i. kind_is (register down.next i)
-          (register sh i) (down.no_more.registers i) (subst (λ (z : Shape). Weaker (register z i) (register down.next i)) same (up.no_more.registers i)),
+          (register sh i) (down.implied.registers i) (subst (λ (z : AbstractState). Weaker (register z i) (register down.next i)) same (up.implied.registers i)),
     )
 
 pub kind_there : (p : Image) (t : Typing) → IsStrongest p t → (m pc : ℕ) → IsSome (method_at p m) →
-    (sh : Shape) → IsShapeAt p m pc (Some sh) → (shape : Shape) × (shape_at t m pc ≡ Some shape) × ((i : ℕ) → register shape i ≡ register sh i)
+    (sh : AbstractState) → IsShapeAt p m pc (Some sh) → (shape : AbstractState) × (shape_at t m pc ≡ Some shape) × ((i : ℕ) → register shape i ≡ register sh i)
 kind_there p t strongest m pc method sh shape = same_shapes p m shape.states (at [] t m) shape.strongest (strongest.each m method) pc sh (sym shape.there)
 
 -- ---- a register that is a word stays one while a call is at hand
 
-argument_words : (p : Image) (xs : List Argument) (first : ℕ) (sh now : Shape) (i : ℕ) →
+argument_words : (p : Image) (xs : List Argument) (first : ℕ) (sh now : AbstractState) (i : ℕ) →
     AllTrue (each_argument p sh xs first) → register sh i ≡ Word → register now i ≡ Word → register (arguments_moved xs first now) i ≡ Word
 argument_words p [] first sh now i met is here = here
 argument_words p (A_word ∷ xs) first sh now i met is here = argument_words p xs (suc first) sh now i met.1 is here
-argument_words p (An_own t ∷ xs) first sh now i met is here = grind (arith, argument_words p xs, at-put_at Unset now.registers first i Null)
+argument_words p (An_own t ∷ xs) first sh now i met is here = grind (arith, argument_words p xs, at-set_extending Unset now.registers first i Null)
 
-called_words : (target : Target) (class : Option ℕ) (ended i : ℕ) (sh : Shape) → register sh i ≡ Word → register (while_called target class ended sh) i ≡ Word
-called_words x class ended i sh is = grind (arith, nat_tests, at-put_at Unset sh.registers, eqb-true)
+called_words : (target : Target) (class : Option ℕ) (ended i : ℕ) (sh : AbstractState) → register sh i ≡ Word → register (while_called target class ended sh) i ≡ Word
+called_words x class ended i sh is = grind (arith, nat_tests, at-set_extending Unset sh.registers, eqb-true)
 
 -- where what goes was no word
-emptied_words : (sh : Shape) (a i : ℕ) → (register sh a ≡ Word → ⊥) → register sh i ≡ Word → register (set_register sh a Null) i ≡ Word
-emptied_words sh a i none is = grind (arith, at-put_at Unset sh.registers a i Null)
+emptied_words : (sh : AbstractState) (a i : ℕ) → (register sh a ≡ Word → ⊥) → register sh i ≡ Word → register (set_register sh a Null) i ≡ Word
+emptied_words sh a i none is = grind (arith, at-set_extending Unset sh.registers a i Null)
 
-module _ (p : Image) (m pc : ℕ) (sh : Shape) (i : ℕ) (is : register sh i ≡ Word) where
+module _ (p : Image) (m pc : ℕ) (sh : AbstractState) (i : ℕ) (is : register sh i ≡ Word) where
   call_words : (target : Target) (m' first ended : ℕ) → AllTrue (each_argument p sh (arguments_of p m') first) →
       register (while_called target (method_class p m') ended (arguments_moved (arguments_of p m') first sh)) i ≡ Word
   call_words target m' first ended met = grind (arith, nat_tests, called_words target, argument_words p)
@@ -111,15 +111,15 @@ word_of_number : (n : ℕ) (w : Option ℤ) (o : Option Object) → IsSome w →
 word_of_number n x o some shows = grind arith
 
 module _ (p : Image) (m : Parts) where
-  abbrev M : Machine
+  abbrev M : MachineModel
   M = record { image = p; parts = m }
 
-  module _ (s : State) (st : StandsFor M s) (k i : ℕ) (fr : Frame) (shape : Shape) (typed : shape_at st.typing fr.method fr.place ≡ Some shape)
+  module _ (s : State) (st : Refines M s) (k i : ℕ) (fr : Frame) (shape : AbstractState) (typed : shape_at st.typing fr.method fr.place ≡ Some shape)
       (is : register shape i ≡ Word) where
-    word_is : (other : Shape) → shape_at st.typing fr.method fr.place ≡ Some other → register other i ≡ Word
-    word_is other there = ap (λ (x : Shape). register x i) (same_Some other shape (sym there ∙ typed)) ∙ is
+    word_is : (other : AbstractState) → shape_at st.typing fr.method fr.place ≡ Some other → register other i ≡ Word
+    word_is other there = ap (λ (x : AbstractState). register x i) (same_Some other shape (sym there ∙ typed)) ∙ is
 
-    while_words : (other : Shape) → shape_at st.typing fr.method fr.place ≡ Some other → register (while_waiting p (instr_at p fr.method fr.place) other) i ≡ Word
+    while_words : (other : AbstractState) → shape_at st.typing fr.method fr.place ≡ Some other → register (while_waiting p (instr_at p fr.method fr.place) other) i ≡ Word
     while_words other there =
         let passes = st.sound.typed.each fr.method fr.place other there in
         ap (λ x. register (while_waiting p x other) i) passes.stands ∙ waiting_words p fr.method fr.place other i (word_is other there) passes.instr passes.needs
@@ -129,11 +129,11 @@ module _ (p : Image) (m : Parts) where
     has_word (task ∷ above) below split = grind (arith, waits_under p st.typing s.cells above fr below, while_words)
 
   -- the number in the register is that word
-  pub word_shown : (k i : ℕ) (f : Machine_frame) (sh : Shape) → over m.stack.tasks k ≡ Some (Runs_frame f) →
+  pub word_shown : (k i : ℕ) (f : Machine_frame) (sh : AbstractState) → over m.stack.tasks k ≡ Some (Runs_frame f) →
       IsSome (method_at p f.method) → IsShapeAt p f.method f.place (Some sh) → register sh i ≡ Word → ShowsWord M (slice_index_or f.registers i null) k i
   word_shown k i f sh held_there method shape is = record { each = λ s st fr there. by s st fr there (frame_there p m s st k f held_there) }
     where
-      by : (s : State) → StandsFor M s → (fr : Frame) → over s.tasks k ≡ Some (Run fr) →
+      by : (s : State) → Refines M s → (fr : Frame) → over s.tasks k ≡ Some (Run fr) →
           ((g : Frame) × (over s.tasks k ≡ Some (Run g)) × SameFrame f g) → word fr i ≡ Some (cast_signed w32 (slice_index_or f.registers i null))
       by s st fr there found =
           let run : Run found.0 ≡ Run fr = same_Some (Run found.0) (Run fr) (sym found.1 ∙ there) in

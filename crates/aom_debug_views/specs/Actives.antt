@@ -1,22 +1,22 @@
 -- What a debugger tells of the active objects of a state.
 use Rattle.std.specs.Prelude.{◌≡◌, ℕ, Bool, true, false, List, Option, Some, None, IsSome, All, AllPairs, length, map, take}
 use Rattle.std.specs.List.{Contains, flat_map}
-use Rattle.aom_active.specs.Agrees.{GoesBefore}
+use Rattle.aom_active_objects.specs.Agrees.{GoesBefore}
 use Rattle.aom_image.specs.Image.{Image}
 use Rattle.aom_semantics.specs.Places.{Aborted, Active as Waiting, Cancelling, Cell, Idle, Issued, Object, Phase, Request, named, requested, service_of}
 use Rattle.aom_semantics.specs.Servers.{is_server}
 use Rattle.aom_semantics.specs.State.{State}
-use Rattle.aom_machine_state.specs.Stands.{Machine, StandsFor}
+use Rattle.aom_machine_state.specs.Stands.{MachineModel, Refines}
 use Rattle.aom_transcript.specs.Sinks.{after}
-use Rattle.aom_debug_names.specs.Names.{Names}
-use Rattle.aom_debug_words.specs.declared.fault.DebugFault.{DebugFault}
-use Rattle.aom_debug_words.specs.declared.fault.DebugFault.TheVariants.{WriteFault}
-use Rattle.aom_debug_words.specs.declared.answer.Answer.{Answer}
-use Rattle.aom_debug_words.specs.declared.answer.Answer.TheVariants.{Active, Server}
-use Rattle.aom_debug_words.specs.declared.answer.Phase.{Phase as Shown_phase}
-use Rattle.aom_debug_words.specs.declared.answer.Phase.TheVariants as shown
-use Rattle.aom_debug_views.specs.Sights.{class_of}
-use Rattle.aom_debug_views.specs.Telling.{answers_by, listed}
+use Rattle.aom_debug_symbols.specs.NameLists.{NameLists}
+use Rattle.aom_debug_protocol.specs.declared.fault.DebugFault.{DebugFault}
+use Rattle.aom_debug_protocol.specs.declared.fault.DebugFault.TheVariants.{WriteFault}
+use Rattle.aom_debug_protocol.specs.declared.answer.Answer.{Answer}
+use Rattle.aom_debug_protocol.specs.declared.answer.Answer.TheVariants.{Active, Server}
+use Rattle.aom_debug_protocol.specs.declared.answer.Phase.{Phase as Shown_phase}
+use Rattle.aom_debug_protocol.specs.declared.answer.Phase.TheVariants as shown
+use Rattle.aom_debug_views.specs.CellViews.{class_of}
+use Rattle.aom_debug_views.specs.Reporting.{answers_by, listed}
 
 -- one whose cancel is at hand is active
 abbrev pub shown_phase : Phase → Shown_phase
@@ -57,17 +57,17 @@ pub record InOrderOfChoice (cs : List Cell) (names : List ℕ) : Type 0 where
   pub order : AllPairs (λ n m. GoesBefore (requested cs n) (requested cs m)) names
 
 -- the objects that the machine has on its list, in the order of that
-abbrev pub on_list : Machine → List ℕ
-on_list m = map (λ e. e.id) m.parts.active.roster.entries
+abbrev pub on_list : MachineModel → List ℕ
+on_list m = map (λ e. e.id) m.parts.active.priority_list.entries
 
 -- these are in the order of choice of each state that a machine stands for, and their lines are out
-pub record TellsActives (ns : Names) (m : Machine) (before now : Option (List ℕ)) : Type 0 where
-  pub order : (s : State) → StandsFor m s → InOrderOfChoice s.cells (on_list m)
-  pub out : (s : State) → StandsFor m s → now ≡ after before (answers_by ns (active_answers m.image s.cells (on_list m)))
+pub record ReportsActives (ns : NameLists) (m : MachineModel) (before now : Option (List ℕ)) : Type 0 where
+  pub order : (s : State) → Refines m s → InOrderOfChoice s.cells (on_list m)
+  pub out : (s : State) → Refines m s → now ≡ after before (answers_by ns (active_answers m.image s.cells (on_list m)))
 
 -- or a beginning of them, since the sink failed, and the fault says so
-pub record TellsActivesPart (ns : Names) (m : Machine) (fault : DebugFault) (failed : Bool) (before now : Option (List ℕ)) : Type 0 where
-  pub told : fault ≡ WriteFault
+pub record ReportsActivesPart (ns : NameLists) (m : MachineModel) (fault : DebugFault) (failed : Bool) (before now : Option (List ℕ)) : Type 0 where
+  pub reported : fault ≡ WriteFault
   pub fails : failed ≡ true
-  pub order : (s : State) → StandsFor m s → InOrderOfChoice s.cells (on_list m)
-  pub out : (s : State) → StandsFor m s → (sent : ℕ) × (now ≡ after before (take sent (answers_by ns (active_answers m.image s.cells (on_list m)))))
+  pub order : (s : State) → Refines m s → InOrderOfChoice s.cells (on_list m)
+  pub out : (s : State) → Refines m s → (sent : ℕ) × (now ≡ after before (take sent (answers_by ns (active_answers m.image s.cells (on_list m)))))

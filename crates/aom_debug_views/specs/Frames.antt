@@ -7,23 +7,23 @@ use Rattle.aom_cells.specs.Heap.{null}
 use Rattle.aom_frames.specs.declared.frame.Frame.{Frame as Machine_frame}
 use Rattle.aom_frames.specs.declared.task.Task.{Task as Machine_task}
 use Rattle.aom_frames.specs.declared.task.Task.TheVariants.{Trapped as Is_trap}
-use Rattle.aom_shape.specs.Kinds.{register}
-use Rattle.aom_shape.specs.Shape.{Shape}
-use Rattle.aom_shape.specs.declared.kind.Kind.{Kind}
-use Rattle.aom_shape.specs.declared.kind.Kind.TheVariants.{Maybe, Null, Own, Unset, Word}
-use Rattle.aom_rules.specs.Typing.{Typing, shape_at}
+use Rattle.aom_abstract_state.specs.Kinds.{register}
+use Rattle.aom_abstract_state.specs.AbstractState.{AbstractState}
+use Rattle.aom_abstract_state.specs.declared.kind.Kind.{Kind}
+use Rattle.aom_abstract_state.specs.declared.kind.Kind.TheVariants.{Maybe, Null, Own, Unset, Word}
+use Rattle.aom_typing_rules.specs.Typing.{Typing, shape_at}
 use Rattle.aom_semantics.specs.Owned.{over}
 use Rattle.aom_semantics.specs.Places.{Cell, Object, Register, held, service_of}
 use Rattle.aom_semantics.specs.State.{Frame, Run, State, Task, Trapped, counter, word}
 use Rattle.aom_machine_state.specs.Agrees.{SameFrame}
-use Rattle.aom_machine_state.specs.Stands.{Machine, StandsFor}
-use Rattle.aom_debug_words.specs.declared.answer.Answer.{Answer}
-use Rattle.aom_debug_words.specs.declared.answer.Answer.TheVariants.{Frame as A_frame, Loop, Register as A_register, Trap}
-use Rattle.aom_debug_words.specs.declared.answer.Source.{Source}
-use Rattle.aom_debug_words.specs.declared.answer.Content.{Content}
-use Rattle.aom_debug_words.specs.declared.answer.Content.TheVariants as contents
+use Rattle.aom_machine_state.specs.Stands.{MachineModel, Refines}
+use Rattle.aom_debug_protocol.specs.declared.answer.Answer.{Answer}
+use Rattle.aom_debug_protocol.specs.declared.answer.Answer.TheVariants.{Frame as A_frame, Loop, Register as A_register, Trap}
+use Rattle.aom_debug_protocol.specs.declared.answer.Source.{Source}
+use Rattle.aom_debug_protocol.specs.declared.answer.Content.{Content}
+use Rattle.aom_debug_protocol.specs.declared.answer.Content.TheVariants as contents
 use Rattle.aom_debug_views.specs.Owners.{Shows, ShowsNone, source_in}
-use Rattle.aom_debug_views.specs.Telling.{gathered, listed}
+use Rattle.aom_debug_views.specs.Reporting.{gathered, listed}
 
 -- ---- registers
 
@@ -93,7 +93,7 @@ abbrev pub frame_lines : (ℕ → Kind) → State → ℕ → Option Task → Li
 frame_lines kinds s depth o = listed (place_in o) ++ (registers_in kinds s.cells depth o 16 ++ (loops_in o 4 ++ listed (trap_in s.tasks depth o)))
 
 -- what a typing says of a register at a place
-abbrev pub kind_in : Option Shape → ℕ → Kind
+abbrev pub kind_in : Option AbstractState → ℕ → Kind
 kind_in None i = Unset
 kind_in (Some sh) i = register sh i
 
@@ -115,11 +115,11 @@ trap_held (Some Is_trap) = Some Trap
 trap_held _ = None
 
 -- a number in a register is its word
-pub record ShowsWord (m : Machine) (n depth i : ℕ) : Type 0 where
-  pub each : (s : State) → StandsFor m s → (fr : Frame) → over s.tasks depth ≡ Some (Run fr) → word fr i ≡ Some (cast_signed w32 n)
+pub record ShowsWord (m : MachineModel) (n depth i : ℕ) : Type 0 where
+  pub each : (s : State) → Refines m s → (fr : Frame) → over s.tasks depth ≡ Some (Run fr) → word fr i ≡ Some (cast_signed w32 n)
 
 -- what a kind says of it
-abbrev pub RegisterShows : Machine → Kind → ℕ → ℕ → ℕ → Type 0
+abbrev pub RegisterShows : MachineModel → Kind → ℕ → ℕ → ℕ → Type 0
 RegisterShows m Unset n depth i = Unit {0}
 RegisterShows m Word n depth i = ShowsWord m n depth i
 RegisterShows m Null n depth i = ShowsNone m (Register depth i)
@@ -127,6 +127,6 @@ RegisterShows m (Own t a) n depth i = Shows m n (Register depth i)
 RegisterShows m (Maybe t a) n depth i = Shows m n (Register depth i)
 
 -- the frame stands at that depth, and its registers are so by its abstract state
-pub record ShowsFrame (m : Machine) (sh : Shape) (f : Machine_frame) (depth : ℕ) : Type 0 where
-  pub there : (s : State) → StandsFor m s → (fr : Frame) × (over s.tasks depth ≡ Some (Run fr)) × SameFrame f fr
+pub record ShowsFrame (m : MachineModel) (sh : AbstractState) (f : Machine_frame) (depth : ℕ) : Type 0 where
+  pub there : (s : State) → Refines m s → (fr : Frame) × (over s.tasks depth ≡ Some (Run fr)) × SameFrame f fr
   pub registers : (i : ℕ) → RegisterShows m (register sh i) (slice_index_or f.registers i null) depth i

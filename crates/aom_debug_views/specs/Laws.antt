@@ -6,7 +6,7 @@ use Rattle.aom_machine_state.specs.declared.parts.Parts.{Parts}
 use Rattle.aom_semantics.specs.Places.{Cell, Object, Place as Owner, named}
 use Rattle.aom_machine_state.specs.Serving.{owner_of, waits_in}
 use Rattle.aom_semantics.specs.State.{State}
-use Rattle.aom_machine_state.specs.Stands.{Machine, StandsFor}
+use Rattle.aom_machine_state.specs.Stands.{MachineModel, Refines}
 use Rattle.aom_machine.specs.Agreement.{AgreesInAll}
 use Rattle.aom_debug_views.specs.Actives.{InOrderOfChoice}
 use Rattle.aom_debug_views.specs.Owners.{Owned, owners}
@@ -26,8 +26,8 @@ abbrev pub SessionsApart : Parts → Type 0
 SessionsApart m = (n : ℕ) → IsOnce (sessions_at m.clients n)
 
 -- in each state that a machine stands for each object and message that lives, but for those that wait in a queue, has one line of the map, and there is no other line
-abbrev pub ToldOnce : Type 0
-ToldOnce = (m : Machine) (s : State) → StandsFor m s → AgreesInAll m → SessionsApart m.parts → (n : ℕ) → lines_of n (owners s) ≡ cond (has_line (named s.cells n) (owner_of s.cells n)) 1 0
+abbrev pub ReportedOnce : Type 0
+ReportedOnce = (m : MachineModel) (s : State) → Refines m s → AgreesInAll m → SessionsApart m.parts → (n : ℕ) → lines_of n (owners s) ≡ cond (has_line (named s.cells n) (owner_of s.cells n)) 1 0
 
 -- there is just one list of the enlisted objects in the order of choice
 abbrev pub OneOrder : Type 0

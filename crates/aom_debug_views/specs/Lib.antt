@@ -1,5 +1,5 @@
-pub mod Telling
-pub mod Sights
+pub mod Reporting
+pub mod CellViews
 pub mod Actives
 pub mod Timers
 pub mod Owners

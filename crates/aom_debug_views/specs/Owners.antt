@@ -12,29 +12,29 @@ use Rattle.aom_frames.specs.declared.item.Item.TheVariants.{Object as Holds_obje
 use Rattle.aom_frames.specs.declared.frame.Frame.{Frame as Machine_frame}
 use Rattle.aom_frames.specs.declared.task.Task.{Task as Machine_task}
 use Rattle.aom_frames.specs.declared.task.Task.TheVariants.{Run as Runs_frame, Destroy as Destroys}
-use Rattle.aom_shape.specs.Kinds.{register}
-use Rattle.aom_shape.specs.Shape.{Shape}
-use Rattle.aom_shape.specs.declared.kind.Kind.{Kind}
-use Rattle.aom_shape.specs.declared.kind.Kind.TheVariants.{Maybe, Own}
+use Rattle.aom_abstract_state.specs.Kinds.{register}
+use Rattle.aom_abstract_state.specs.AbstractState.{AbstractState}
+use Rattle.aom_abstract_state.specs.declared.kind.Kind.{Kind}
+use Rattle.aom_abstract_state.specs.declared.kind.Kind.TheVariants.{Maybe, Own}
 use Rattle.aom_transcript.specs.Text.{ended}
 use Rattle.aom_semantics.specs.Owned.{over}
 use Rattle.aom_semantics.specs.Places.{Cell, Elsewhere, Entry, Field, Going, In_service, Object, Place, Register, Root, Sender, Service, Session, Token, held, service_of}
 use Rattle.aom_semantics.specs.State.{A_mark, An_object, An_operation, Destroy, Item, Run, State, Task}
 use Rattle.aom_machine_state.specs.declared.parts.Parts.{Parts}
 use Rattle.aom_cells.specs.Tokens.{class_at}
-use Rattle.aom_debug_names.specs.Names.{Names, class_by}
-use Rattle.aom_debug_names.specs.Answers.{hearer_by}
-use Rattle.aom_debug_words.specs.declared.answer.Source.{Source}
-use Rattle.aom_debug_words.specs.declared.answer.Source.TheVariants as sources
-pub use Rattle.aom_debug_words.specs.Ways.{Way, branch_text, further, outer_text, way_text}
-pub use Rattle.aom_debug_words.specs.declared.way.Branch.{Branch}
-pub use Rattle.aom_debug_words.specs.declared.way.Branch.TheVariants.{Field as By_field, Session as By_session}
-pub use Rattle.aom_debug_words.specs.declared.way.Outer.{Outer}
-pub use Rattle.aom_debug_words.specs.declared.way.Outer.TheVariants.{Entry as In_entry, Going as In_going, Register as In_register, Root as At_root, Service as At_service}
+use Rattle.aom_debug_symbols.specs.NameLists.{NameLists, class_by}
+use Rattle.aom_debug_symbols.specs.Answers.{observer_by}
+use Rattle.aom_debug_protocol.specs.declared.answer.Source.{Source}
+use Rattle.aom_debug_protocol.specs.declared.answer.Source.TheVariants as sources
+pub use Rattle.aom_debug_protocol.specs.Ways.{Way, branch_text, further, outer_text, way_text}
+pub use Rattle.aom_debug_protocol.specs.declared.way.Branch.{Branch}
+pub use Rattle.aom_debug_protocol.specs.declared.way.Branch.TheVariants.{Field as By_field, Session as By_session}
+pub use Rattle.aom_debug_protocol.specs.declared.way.Outer.{Outer}
+pub use Rattle.aom_debug_protocol.specs.declared.way.Outer.TheVariants.{Entry as In_entry, Going as In_going, Register as In_register, Root as At_root, Service as At_service}
 use Rattle.aom_machine_state.specs.Agrees.{number}
-use Rattle.aom_machine_state.specs.Stands.{Machine, StandsFor}
-use Rattle.aom_debug_views.specs.Sights.{counted}
-use Rattle.aom_debug_views.specs.Telling.{gathered}
+use Rattle.aom_machine_state.specs.Stands.{MachineModel, Refines}
+use Rattle.aom_debug_views.specs.CellViews.{counted}
+use Rattle.aom_debug_views.specs.Reporting.{gathered}
 
 -- ---- who hears
 
@@ -56,15 +56,15 @@ pub record Owned : Type 0 where
 -- ---- how they are spelled
 
 -- an object by its class, and a message by who hears when it is completed
-abbrev pub thing_text : Names → Thing → Option Source → List ℕ
+abbrev pub thing_text : NameLists → Thing → Option Source → List ℕ
 thing_text ns (An_object_of class) source = class_by ns class
-thing_text ns Message (Some source) = hearer_by ns source
+thing_text ns Message (Some source) = observer_by ns source
 thing_text ns Message None = codes "msg"
 
-abbrev pub owned_line : Names → Owned → List ℕ
+abbrev pub owned_line : NameLists → Owned → List ℕ
 owned_line ns x = ended (way_text x.way ++ codes " " ++ thing_text ns x.object.thing x.source)
 
-abbrev pub owners_text : Names → List Owned → List ℕ
+abbrev pub owners_text : NameLists → List Owned → List ℕ
 owners_text ns xs = flat_map (owned_line ns) xs
 
 -- ---- what hangs from a place
@@ -133,9 +133,9 @@ owners s =
 -- ---- what a machine shows of them
 
 -- the line of a message at the end of a way, if there is one
-abbrev pub message_text : Names → List ℕ → Option Source → List ℕ
+abbrev pub message_text : NameLists → List ℕ → Option Source → List ℕ
 message_text ns way None = []
-message_text ns way (Some source) = ended (way ++ codes " " ++ hearer_by ns source)
+message_text ns way (Some source) = ended (way ++ codes " " ++ observer_by ns source)
 
 -- the client that sent what a message place has
 abbrev pub sender_of : MessagePlace → Option Source
@@ -154,15 +154,15 @@ abbrev pub source_at : Parts → ℕ → Option Source
 source_at m n = cond (nat_lt n 4096) None (cond (nat_lt n 5120) (source_of (class_at m.tokens (n - 4096)) (place_at m.clients (n - 4096))) None)
 
 -- the number of what a place owns, and null where it owns nothing
-pub record Shows (m : Machine) (n : ℕ) (r : Place) : Type 0 where
-  pub each : (s : State) → StandsFor m s → n ≡ number (held s.cells r)
+pub record Shows (m : MachineModel) (n : ℕ) (r : Place) : Type 0 where
+  pub each : (s : State) → Refines m s → n ≡ number (held s.cells r)
 
 -- a place owns nothing
-pub record ShowsNone (m : Machine) (r : Place) : Type 0 where
-  pub each : (s : State) → StandsFor m s → held s.cells r ≡ None
+pub record ShowsNone (m : MachineModel) (r : Place) : Type 0 where
+  pub each : (s : State) → Refines m s → held s.cells r ≡ None
 
 -- a register has a number, or else it owns nothing
-abbrev pub ShowsIf : Bool → Machine → ℕ → Place → Type 0
+abbrev pub ShowsIf : Bool → MachineModel → ℕ → Place → Type 0
 ShowsIf true m n r = Shows m n r
 ShowsIf false m n r = ShowsNone m r
 
@@ -173,7 +173,7 @@ may_own (Maybe t a) = true
 may_own _ = false
 
 -- so are the registers of a frame at that depth, by its abstract state
-pub record ShowsAll (m : Machine) (sh : Shape) (registers : List ℕ) (depth : ℕ) : Type 0 where
+pub record ShowsAll (m : MachineModel) (sh : AbstractState) (registers : List ℕ) (depth : ℕ) : Type 0 where
   pub each : (i : ℕ) → ShowsIf (may_own (register sh i)) m (slice_index_or registers i null) (Register depth i)
 
 -- the frame that a task of the machine is

@@ -1,18 +1,18 @@
 -- What a debugger tells of the timers that run in a state.
 use Rattle.std.specs.Prelude.{◌≡◌, ℕ, Bool, true, List, Option, Some, None, IsSome, All, AllPairs, map, take}
 use Rattle.std.specs.List.{Contains, flat_map}
-use Rattle.aom_active.specs.Agrees.{IsSooner, due_in}
+use Rattle.aom_active_objects.specs.Agrees.{IsSooner, due_in}
 use Rattle.aom_semantics.specs.Places.{Cell, named, requested}
 use Rattle.aom_semantics.specs.State.{State}
-use Rattle.aom_machine_state.specs.Stands.{Machine, StandsFor}
+use Rattle.aom_machine_state.specs.Stands.{MachineModel, Refines}
 use Rattle.aom_transcript.specs.Sinks.{after}
-use Rattle.aom_debug_names.specs.Names.{Names}
-use Rattle.aom_debug_words.specs.declared.fault.DebugFault.{DebugFault}
-use Rattle.aom_debug_words.specs.declared.fault.DebugFault.TheVariants.{WriteFault}
-use Rattle.aom_debug_words.specs.declared.answer.Answer.{Answer}
-use Rattle.aom_debug_words.specs.declared.answer.Answer.TheVariants.{Timer}
-use Rattle.aom_debug_views.specs.Sights.{class_of}
-use Rattle.aom_debug_views.specs.Telling.{answers_by, listed}
+use Rattle.aom_debug_symbols.specs.NameLists.{NameLists}
+use Rattle.aom_debug_protocol.specs.declared.fault.DebugFault.{DebugFault}
+use Rattle.aom_debug_protocol.specs.declared.fault.DebugFault.TheVariants.{WriteFault}
+use Rattle.aom_debug_protocol.specs.declared.answer.Answer.{Answer}
+use Rattle.aom_debug_protocol.specs.declared.answer.Answer.TheVariants.{Timer}
+use Rattle.aom_debug_views.specs.CellViews.{class_of}
+use Rattle.aom_debug_views.specs.Reporting.{answers_by, listed}
 
 abbrev pub timer_of : Option ℕ → Option ℕ → Option Answer
 timer_of (Some class) (Some due) = Some (Timer class due)
@@ -36,17 +36,17 @@ pub record InOrderOfTime (cs : List Cell) (names : List ℕ) : Type 0 where
   pub order : AllPairs (λ n m. IsSooner (requested cs n) (requested cs m)) names
 
 -- the objects whose timers the machine has, in its order
-abbrev pub on_timers : Machine → List ℕ
+abbrev pub on_timers : MachineModel → List ℕ
 on_timers m = map (λ t. t.id) m.parts.active.pending.timers
 
 -- these are in the order of time of each state that a machine stands for, and their lines are out
-pub record TellsTimers (ns : Names) (m : Machine) (before now : Option (List ℕ)) : Type 0 where
-  pub order : (s : State) → StandsFor m s → InOrderOfTime s.cells (on_timers m)
-  pub out : (s : State) → StandsFor m s → now ≡ after before (answers_by ns (timer_answers s.cells (on_timers m)))
+pub record ReportsTimers (ns : NameLists) (m : MachineModel) (before now : Option (List ℕ)) : Type 0 where
+  pub order : (s : State) → Refines m s → InOrderOfTime s.cells (on_timers m)
+  pub out : (s : State) → Refines m s → now ≡ after before (answers_by ns (timer_answers s.cells (on_timers m)))
 
 -- or a beginning of them, since the sink failed, and the fault says so
-pub record TellsTimersPart (ns : Names) (m : Machine) (fault : DebugFault) (failed : Bool) (before now : Option (List ℕ)) : Type 0 where
-  pub told : fault ≡ WriteFault
+pub record ReportsTimersPart (ns : NameLists) (m : MachineModel) (fault : DebugFault) (failed : Bool) (before now : Option (List ℕ)) : Type 0 where
+  pub reported : fault ≡ WriteFault
   pub fails : failed ≡ true
-  pub order : (s : State) → StandsFor m s → InOrderOfTime s.cells (on_timers m)
-  pub out : (s : State) → StandsFor m s → (sent : ℕ) × (now ≡ after before (take sent (answers_by ns (timer_answers s.cells (on_timers m)))))
+  pub order : (s : State) → Refines m s → InOrderOfTime s.cells (on_timers m)
+  pub out : (s : State) → Refines m s → (sent : ℕ) × (now ≡ after before (take sent (answers_by ns (timer_answers s.cells (on_timers m)))))

@@ -1,13 +1,13 @@
 //! The breakpoints.
 ghost use Rattle.std.specs.Prelude.{◌≡◌, IfErr, IfOk, option_map, slice_get};
 ghost use Rattle.aom_transcript.specs.Sinks.{after};
-ghost use Rattle.aom_debug_words.specs.declared.answer.Answer.TheVariants.{Break};
-ghost use Rattle.aom_debug_views.specs.Sights.{breaks_answers};
-ghost use Rattle.aom_debug_views.specs.Telling.{IsCut, answers_by};
+ghost use Rattle.aom_debug_protocol.specs.declared.answer.Answer.TheVariants.{Break};
+ghost use Rattle.aom_debug_views.specs.CellViews.{breaks_answers};
+ghost use Rattle.aom_debug_views.specs.Reporting.{IsCut, answers_by};
 
-use crate::sending::tell_any_by;
-use aom_debug_names::SourceNames;
-use aom_debug_words::{Answer, Breakpoints, DebugFault};
+use crate::sending::report_any_by;
+use aom_debug_protocol::{Answer, Breakpoints, DebugFault};
+use aom_debug_symbols::SourceNames;
 use aom_transcript::Sink;
 
 /// The breakpoint at an index, in the order in which they were set, as it is told.
@@ -21,7 +21,7 @@ fn break_answer(breakpoints: &Breakpoints, index: usize) -> Option<Answer>
 }
 
 /// Tells the breakpoints, in the order in which they were set, each as the command that sets it.
-pub fn tell_breaks<W: Sink>(
+pub fn report_breaks<W: Sink>(
     breakpoints: &Breakpoints,
     names: &SourceNames,
     out: &mut W,
@@ -30,7 +30,7 @@ pub fn tell_breaks<W: Sink>(
     ensures err { IfErr result (λ fault. IsCut (answers_by names.now (breaks_answers breakpoints.now)) fault (W.failed out.new) (W.out out.old) (W.out out.new)) }
 {
     for index in 0..breakpoints.count() {
-        tell_any_by(names, break_answer(breakpoints, index), out)?;
+        report_any_by(names, break_answer(breakpoints, index), out)?;
     }
     Ok(())
 }

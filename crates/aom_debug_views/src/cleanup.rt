@@ -2,16 +2,16 @@
 ghost use Rattle.std.specs.Prelude.{◌≡◌, ◌<◌, IfErr, IfOk, length, option_map};
 ghost use Rattle.aom_cells.specs.Heap.{class_at};
 ghost use Rattle.aom_image.specs.Image.{Image};
-ghost use Rattle.aom_machine_state.specs.Stands.{StandsFor};
+ghost use Rattle.aom_machine_state.specs.Stands.{Refines};
 ghost use Rattle.aom_semantics.specs.Owned.{over};
 ghost use Rattle.aom_semantics.specs.State.{State};
-ghost use Rattle.aom_debug_words.specs.declared.answer.Answer.TheVariants.{Object};
-ghost use Rattle.aom_debug_views.specs.Sights.{cleanup_answers, held_answer, item_answer};
-ghost use Rattle.aom_debug_views.specs.Telling.{Tells, TellsPart, answers_by};
+ghost use Rattle.aom_debug_protocol.specs.declared.answer.Answer.TheVariants.{Object};
+ghost use Rattle.aom_debug_views.specs.CellViews.{cleanup_answers, held_answer, item_answer};
+ghost use Rattle.aom_debug_views.specs.Reporting.{Reports, ReportsPart, answers_by};
 
-use crate::sending::tell_any_by;
-use aom_debug_names::SourceNames;
-use aom_debug_words::{Answer, DebugFault};
+use crate::sending::report_any_by;
+use aom_debug_protocol::{Answer, DebugFault};
+use aom_debug_symbols::SourceNames;
 use aom_frames::Item;
 use aom_machine_state::Parts;
 use aom_transcript::Sink;
@@ -46,7 +46,7 @@ fn object_answer(parts: &Parts, number: u32) -> Option<Answer>
 }
 
 /// An item, as it is told.
-fn told_item(parts: &Parts, item: Item) -> Option<Answer>
+fn reported_item(parts: &Parts, item: Item) -> Option<Answer>
     ensures { result ≡ held_answer parts.now.cells item }
 {
     match item {
@@ -61,25 +61,25 @@ fn told_item(parts: &Parts, item: Item) -> Option<Answer>
 /// That item, as it is told.
 fn item_answer(parts: &Parts, height: usize) -> Option<Answer>
     requires { height < length parts.now.entries.items }
-    ensures { (p : Image) (s : State) → StandsFor (record { image = p; parts = parts.now }) s → result ≡ item_answer s.cells height (over s.items height) }
+    ensures { (p : Image) (s : State) → Refines (record { image = p; parts = parts.now }) s → result ≡ item_answer s.cells height (over s.items height) }
 {
     match item_at(parts, height) {
-        Some(item) => told_item(parts, item),
+        Some(item) => reported_item(parts, item),
         None => None,
     }
 }
 
 /// Tells the items of the cleanup stack, the lowest first.
-pub fn tell_cleanup<W: Sink>(
+pub fn report_cleanup<W: Sink>(
     parts: &Parts,
     names: &SourceNames,
     out: &mut W,
 ) -> Result<(), DebugFault>
-    ensures ok { IfOk result (λ _. (p : Image) → Tells (record { image = p; parts = parts.now }) (λ s. answers_by names.now (cleanup_answers s)) (W.out out.old) (W.out out.new)) }
-    ensures err { IfErr result (λ fault. (p : Image) → TellsPart (record { image = p; parts = parts.now }) (λ s. answers_by names.now (cleanup_answers s)) fault (W.failed out.new) (W.out out.old) (W.out out.new)) }
+    ensures ok { IfOk result (λ _. (p : Image) → Reports (record { image = p; parts = parts.now }) (λ s. answers_by names.now (cleanup_answers s)) (W.out out.old) (W.out out.new)) }
+    ensures err { IfErr result (λ fault. (p : Image) → ReportsPart (record { image = p; parts = parts.now }) (λ s. answers_by names.now (cleanup_answers s)) fault (W.failed out.new) (W.out out.old) (W.out out.new)) }
 {
     for height in 0..parts.entries.len() {
-        tell_any_by(names, item_answer(parts, height), out)?;
+        report_any_by(names, item_answer(parts, height), out)?;
     }
     Ok(())
 }

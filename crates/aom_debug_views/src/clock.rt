@@ -1,18 +1,18 @@
 //! The time.
 ghost use Rattle.std.specs.Prelude.{IfErr, IfOk};
 ghost use Rattle.aom_image.specs.Image.{Image};
-ghost use Rattle.aom_debug_views.specs.Sights.{clock_text};
-ghost use Rattle.aom_debug_views.specs.Telling.{Tells, TellsPart};
+ghost use Rattle.aom_debug_views.specs.CellViews.{clock_text};
+ghost use Rattle.aom_debug_views.specs.Reporting.{Reports, ReportsPart};
 
-use crate::sending::tell;
-use aom_debug_words::{Answer, DebugFault};
+use crate::sending::report;
+use aom_debug_protocol::{Answer, DebugFault};
 use aom_machine_state::Parts;
 use aom_transcript::Sink;
 
 /// Tells what time it is.
-pub fn tell_clock<W: Sink>(parts: &Parts, out: &mut W) -> Result<(), DebugFault>
-    ensures ok { IfOk result (λ _. (p : Image) → Tells (record { image = p; parts = parts.now }) (λ s. clock_text s) (W.out out.old) (W.out out.new)) }
-    ensures err { IfErr result (λ fault. (p : Image) → TellsPart (record { image = p; parts = parts.now }) (λ s. clock_text s) fault (W.failed out.new) (W.out out.old) (W.out out.new)) }
+pub fn report_clock<W: Sink>(parts: &Parts, out: &mut W) -> Result<(), DebugFault>
+    ensures ok { IfOk result (λ _. (p : Image) → Reports (record { image = p; parts = parts.now }) (λ s. clock_text s) (W.out out.old) (W.out out.new)) }
+    ensures err { IfErr result (λ fault. (p : Image) → ReportsPart (record { image = p; parts = parts.now }) (λ s. clock_text s) fault (W.failed out.new) (W.out out.old) (W.out out.new)) }
 {
-    tell(Answer::Clock(parts.rest.clock()), out)
+    report(Answer::Clock(parts.rest.clock()), out)
 }

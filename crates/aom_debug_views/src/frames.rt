@@ -1,33 +1,33 @@
 //! The methods at hand.
 ghost use Rattle.std.specs.Prelude.{◌≡◌, ℕ, ◌<◌, IfErr, IfOk, Some, option_map};
 ghost use Rattle.std.specs.Int.{w32, cast_signed};
-ghost use Rattle.aom_typings.specs.Strongest.{IsStrongest};
+ghost use Rattle.aom_static_bounds.specs.Strongest.{IsStrongest};
 ghost use Rattle.aom_machine.specs.Agreement.{AgreesInAll};
 ghost use Rattle.aom_frames.specs.declared.frame.Frame.{Frame as FrameOf};
 ghost use Rattle.aom_image.specs.Image.{Image};
-ghost use Rattle.aom_machine_state.specs.Stands.{Machine, Stands, StandsFor};
-ghost use Rattle.aom_rules.specs.Typing.{Typing};
-ghost use Rattle.aom_shape.specs.Kinds.{register as kind_at};
-ghost use Rattle.aom_shape.specs.Shape.{Shape as ShapeRecord};
+ghost use Rattle.aom_machine_state.specs.Stands.{MachineModel, Stands, Refines};
+ghost use Rattle.aom_typing_rules.specs.Typing.{Typing};
+ghost use Rattle.aom_abstract_state.specs.Kinds.{register as kind_at};
+ghost use Rattle.aom_abstract_state.specs.AbstractState.{AbstractState as ShapeRecord};
 ghost use Rattle.aom_semantics.specs.Owned.{over};
 ghost use Rattle.aom_semantics.specs.Places.{Place, Register, held};
 ghost use Rattle.aom_semantics.specs.State.{Frame as FrameRecord, Run, State, word};
-ghost use Rattle.aom_debug_words.specs.declared.answer.Content.TheVariants.{Message, Word};
+ghost use Rattle.aom_debug_protocol.specs.declared.answer.Content.TheVariants.{Message, Word};
 ghost use Rattle.aom_debug_views.specs.Frames.{RegisterShows, ShowsFrame, content_by, frame_answers, frame_lines, frames_answers, loop_answer, loops_in, owned_content, register_in, registers_in, place_in, trap_held, trap_in, trap_under};
 ghost use Rattle.aom_debug_views.specs.Owners.{Shows, source_at};
-ghost use Rattle.aom_debug_views.specs.Telling.{Tells, TellsPart, answers_by, listed};
+ghost use Rattle.aom_debug_views.specs.Reporting.{Reports, ReportsPart, answers_by, listed};
 
 use crate::cleanup::class_of;
 use crate::owners::frame_at;
-use crate::sending::tell_any_by;
+use crate::sending::report_any_by;
 use crate::tree::source_at;
+use aom_abstract_state::{AbstractState, Kind};
 use aom_budget::Accepted;
 use aom_cells::NULL;
-use aom_debug_names::SourceNames;
-use aom_debug_words::{Answer, Content, DebugFault, Spot};
+use aom_debug_protocol::{Answer, CodeLocation, Content, DebugFault};
+use aom_debug_symbols::SourceNames;
 use aom_frames::{Frame, Task};
 use aom_machine_state::Parts;
-use aom_shape::{Kind, Shape};
 use aom_transcript::Sink;
 use aom_verify::Checked;
 
@@ -45,7 +45,7 @@ fn message_content(parts: &Parts, number: u32) -> Option<Content>
 /// What has that number, or null.
 fn owned_content(parts: &Parts, number: u32) -> Option<Content>
     requires { (p : Image) × Stands (record { image = p; parts = parts.now }) }
-    ensures { (p : Image) (r : Place) → Shows (record { image = p; parts = parts.now }) number r → (s : State) → StandsFor (record { image = p; parts = parts.now }) s → result ≡ owned_content s.cells (held s.cells r) }
+    ensures { (p : Image) (r : Place) → Shows (record { image = p; parts = parts.now }) number r → (s : State) → Refines (record { image = p; parts = parts.now }) s → result ≡ owned_content s.cells (held s.cells r) }
 {
     if number == NULL {
         return Some(Content::Null);
@@ -66,7 +66,7 @@ fn word_content(number: u32) -> Content
 /// What a register has that has that number, by what the typing says that it is.
 fn content_by(parts: &Parts, kind: Kind, number: u32) -> Option<Content>
     requires { (p : Image) × Stands (record { image = p; parts = parts.now }) }
-    ensures { (p : Image) (depth i : ℕ) → RegisterShows (record { image = p; parts = parts.now }) kind number depth i → (s : State) → StandsFor (record { image = p; parts = parts.now }) s → (fr : FrameRecord) → over s.tasks depth ≡ Some (Run fr) → result ≡ content_by s.cells kind (word fr i) (held s.cells (Register depth i)) }
+    ensures { (p : Image) (depth i : ℕ) → RegisterShows (record { image = p; parts = parts.now }) kind number depth i → (s : State) → Refines (record { image = p; parts = parts.now }) s → (fr : FrameRecord) → over s.tasks depth ≡ Some (Run fr) → result ≡ content_by s.cells kind (word fr i) (held s.cells (Register depth i)) }
 {
     match kind {
         Kind::Unset => None,
@@ -77,10 +77,15 @@ fn content_by(parts: &Parts, kind: Kind, number: u32) -> Option<Content>
 }
 
 /// A register of a frame, as it is told.
-fn register_answer(parts: &Parts, shape: &Shape<'_>, frame: &Frame, register: u8) -> Option<Answer>
+fn register_answer(
+    parts: &Parts,
+    shape: &AbstractState<'_>,
+    frame: &Frame,
+    register: u8,
+) -> Option<Answer>
     requires register { register < 16 }
     requires stands { (p : Image) × Stands (record { image = p; parts = parts.now }) }
-    ensures { (p : Image) (depth : ℕ) → ShowsFrame (record { image = p; parts = parts.now }) shape.now frame.now depth → (s : State) → StandsFor (record { image = p; parts = parts.now }) s → result ≡ register_in (λ i. kind_at shape.now i) s.cells depth (over s.tasks depth) register }
+    ensures { (p : Image) (depth : ℕ) → ShowsFrame (record { image = p; parts = parts.now }) shape.now frame.now depth → (s : State) → Refines (record { image = p; parts = parts.now }) s → result ≡ register_in (λ i. kind_at shape.now i) s.cells depth (over s.tasks depth) register }
 {
     let kind = shape.kind_at(register as usize);
     match content_by(parts, kind, frame.register(register)) {
@@ -90,19 +95,19 @@ fn register_answer(parts: &Parts, shape: &Shape<'_>, frame: &Frame, register: u8
 }
 
 /// Tells the registers of a frame that are set.
-fn tell_contents<W: Sink>(
+fn report_contents<W: Sink>(
     parts: &Parts,
-    shape: &Shape<'_>,
+    shape: &AbstractState<'_>,
     frame: &Frame,
     names: &SourceNames,
     out: &mut W,
 ) -> Result<(), DebugFault>
     requires { (p : Image) × Stands (record { image = p; parts = parts.now }) }
-    ensures ok { IfOk result (λ _. (p : Image) (depth : ℕ) → ShowsFrame (record { image = p; parts = parts.now }) shape.now frame.now depth → Tells (record { image = p; parts = parts.now }) (λ s. answers_by names.now (registers_in (λ i. kind_at shape.now i) s.cells depth (over s.tasks depth) 16)) (W.out out.old) (W.out out.new)) }
-    ensures err { IfErr result (λ fault. (p : Image) (depth : ℕ) → ShowsFrame (record { image = p; parts = parts.now }) shape.now frame.now depth → TellsPart (record { image = p; parts = parts.now }) (λ s. answers_by names.now (registers_in (λ i. kind_at shape.now i) s.cells depth (over s.tasks depth) 16)) fault (W.failed out.new) (W.out out.old) (W.out out.new)) }
+    ensures ok { IfOk result (λ _. (p : Image) (depth : ℕ) → ShowsFrame (record { image = p; parts = parts.now }) shape.now frame.now depth → Reports (record { image = p; parts = parts.now }) (λ s. answers_by names.now (registers_in (λ i. kind_at shape.now i) s.cells depth (over s.tasks depth) 16)) (W.out out.old) (W.out out.new)) }
+    ensures err { IfErr result (λ fault. (p : Image) (depth : ℕ) → ShowsFrame (record { image = p; parts = parts.now }) shape.now frame.now depth → ReportsPart (record { image = p; parts = parts.now }) (λ s. answers_by names.now (registers_in (λ i. kind_at shape.now i) s.cells depth (over s.tasks depth) 16)) fault (W.failed out.new) (W.out out.old) (W.out out.new)) }
 {
     for register in 0..16u8 {
-        tell_any_by(names, register_answer(parts, shape, frame, register), out)?;
+        report_any_by(names, register_answer(parts, shape, frame, register), out)?;
     }
     Ok(())
 }
@@ -118,12 +123,12 @@ fn loop_answer(number: u8, rounds: u16) -> Option<Answer>
 }
 
 /// Tells the loops of a frame that have rounds left, the outermost first.
-fn tell_loops<W: Sink>(frame: &Frame, names: &SourceNames, out: &mut W) -> Result<(), DebugFault>
-    ensures ok { IfOk result (λ _. (m : Machine) (sh : ShapeRecord) (depth : ℕ) → ShowsFrame m sh frame.now depth → Tells m (λ s. answers_by names.now (loops_in (over s.tasks depth) 4)) (W.out out.old) (W.out out.new)) }
-    ensures err { IfErr result (λ fault. (m : Machine) (sh : ShapeRecord) (depth : ℕ) → ShowsFrame m sh frame.now depth → TellsPart m (λ s. answers_by names.now (loops_in (over s.tasks depth) 4)) fault (W.failed out.new) (W.out out.old) (W.out out.new)) }
+fn report_loops<W: Sink>(frame: &Frame, names: &SourceNames, out: &mut W) -> Result<(), DebugFault>
+    ensures ok { IfOk result (λ _. (m : MachineModel) (sh : ShapeRecord) (depth : ℕ) → ShowsFrame m sh frame.now depth → Reports m (λ s. answers_by names.now (loops_in (over s.tasks depth) 4)) (W.out out.old) (W.out out.new)) }
+    ensures err { IfErr result (λ fault. (m : MachineModel) (sh : ShapeRecord) (depth : ℕ) → ShowsFrame m sh frame.now depth → ReportsPart m (λ s. answers_by names.now (loops_in (over s.tasks depth) 4)) fault (W.failed out.new) (W.out out.old) (W.out out.new)) }
 {
     for number in 0..4u8 {
-        tell_any_by(names, loop_answer(number, frame.counter(number)), out)?;
+        report_any_by(names, loop_answer(number, frame.counter(number)), out)?;
     }
     Ok(())
 }
@@ -140,7 +145,7 @@ fn trap_of(task: Option<Task>) -> Option<Answer>
 
 /// A trap right beneath a depth, as it is told.
 fn trap_under(parts: &Parts, depth: usize) -> Option<Answer>
-    ensures { (p : Image) (s : State) → StandsFor (record { image = p; parts = parts.now }) s → result ≡ trap_under s.tasks depth }
+    ensures { (p : Image) (s : State) → Refines (record { image = p; parts = parts.now }) s → result ≡ trap_under s.tasks depth }
 {
     if depth == 0 {
         return None;
@@ -149,51 +154,51 @@ fn trap_under(parts: &Parts, depth: usize) -> Option<Answer>
 }
 
 /// Tells whether a trap called the frame that stands at a depth.
-fn tell_trap<W: Sink>(
+fn report_trap<W: Sink>(
     parts: &Parts,
     depth: usize,
     names: &SourceNames,
     out: &mut W,
 ) -> Result<(), DebugFault>
-    ensures ok { IfOk result (λ _. (p : Image) (sh : ShapeRecord) (f : FrameOf) → ShowsFrame (record { image = p; parts = parts.now }) sh f depth → Tells (record { image = p; parts = parts.now }) (λ s. answers_by names.now (listed (trap_in s.tasks depth (over s.tasks depth)))) (W.out out.old) (W.out out.new)) }
-    ensures err { IfErr result (λ fault. (p : Image) (sh : ShapeRecord) (f : FrameOf) → ShowsFrame (record { image = p; parts = parts.now }) sh f depth → TellsPart (record { image = p; parts = parts.now }) (λ s. answers_by names.now (listed (trap_in s.tasks depth (over s.tasks depth)))) fault (W.failed out.new) (W.out out.old) (W.out out.new)) }
+    ensures ok { IfOk result (λ _. (p : Image) (sh : ShapeRecord) (f : FrameOf) → ShowsFrame (record { image = p; parts = parts.now }) sh f depth → Reports (record { image = p; parts = parts.now }) (λ s. answers_by names.now (listed (trap_in s.tasks depth (over s.tasks depth)))) (W.out out.old) (W.out out.new)) }
+    ensures err { IfErr result (λ fault. (p : Image) (sh : ShapeRecord) (f : FrameOf) → ShowsFrame (record { image = p; parts = parts.now }) sh f depth → ReportsPart (record { image = p; parts = parts.now }) (λ s. answers_by names.now (listed (trap_in s.tasks depth (over s.tasks depth)))) fault (W.failed out.new) (W.out out.old) (W.out out.new)) }
 {
-    tell_any_by(names, trap_under(parts, depth), out)
+    report_any_by(names, trap_under(parts, depth), out)
 }
 
 /// Tells where a frame stands.
-fn tell_head<W: Sink>(frame: &Frame, names: &SourceNames, out: &mut W) -> Result<(), DebugFault>
-    ensures ok { IfOk result (λ _. (m : Machine) (sh : ShapeRecord) (depth : ℕ) → ShowsFrame m sh frame.now depth → Tells m (λ s. answers_by names.now (listed (place_in (over s.tasks depth)))) (W.out out.old) (W.out out.new)) }
-    ensures err { IfErr result (λ fault. (m : Machine) (sh : ShapeRecord) (depth : ℕ) → ShowsFrame m sh frame.now depth → TellsPart m (λ s. answers_by names.now (listed (place_in (over s.tasks depth)))) fault (W.failed out.new) (W.out out.old) (W.out out.new)) }
+fn report_head<W: Sink>(frame: &Frame, names: &SourceNames, out: &mut W) -> Result<(), DebugFault>
+    ensures ok { IfOk result (λ _. (m : MachineModel) (sh : ShapeRecord) (depth : ℕ) → ShowsFrame m sh frame.now depth → Reports m (λ s. answers_by names.now (listed (place_in (over s.tasks depth)))) (W.out out.old) (W.out out.new)) }
+    ensures err { IfErr result (λ fault. (m : MachineModel) (sh : ShapeRecord) (depth : ℕ) → ShowsFrame m sh frame.now depth → ReportsPart m (λ s. answers_by names.now (listed (place_in (over s.tasks depth)))) fault (W.failed out.new) (W.out out.old) (W.out out.new)) }
 {
-    let spot = Spot {
+    let spot = CodeLocation {
         method: frame.method.number(),
         place: frame.place,
     };
-    tell_any_by(names, Some(Answer::Frame(spot)), out)
+    report_any_by(names, Some(Answer::Frame(spot)), out)
 }
 
 /// Tells a frame that stands at a depth.
-fn tell_lines<W: Sink>(
+fn report_lines<W: Sink>(
     parts: &Parts,
-    shape: &Shape<'_>,
+    shape: &AbstractState<'_>,
     frame: &Frame,
     depth: usize,
     names: &SourceNames,
     out: &mut W,
 ) -> Result<(), DebugFault>
     requires { (p : Image) × Stands (record { image = p; parts = parts.now }) }
-    ensures ok { IfOk result (λ _. (p : Image) → ShowsFrame (record { image = p; parts = parts.now }) shape.now frame.now depth → Tells (record { image = p; parts = parts.now }) (λ s. answers_by names.now (frame_lines (λ i. kind_at shape.now i) s depth (over s.tasks depth))) (W.out out.old) (W.out out.new)) }
-    ensures err { IfErr result (λ fault. (p : Image) → ShowsFrame (record { image = p; parts = parts.now }) shape.now frame.now depth → TellsPart (record { image = p; parts = parts.now }) (λ s. answers_by names.now (frame_lines (λ i. kind_at shape.now i) s depth (over s.tasks depth))) fault (W.failed out.new) (W.out out.old) (W.out out.new)) }
+    ensures ok { IfOk result (λ _. (p : Image) → ShowsFrame (record { image = p; parts = parts.now }) shape.now frame.now depth → Reports (record { image = p; parts = parts.now }) (λ s. answers_by names.now (frame_lines (λ i. kind_at shape.now i) s depth (over s.tasks depth))) (W.out out.old) (W.out out.new)) }
+    ensures err { IfErr result (λ fault. (p : Image) → ShowsFrame (record { image = p; parts = parts.now }) shape.now frame.now depth → ReportsPart (record { image = p; parts = parts.now }) (λ s. answers_by names.now (frame_lines (λ i. kind_at shape.now i) s depth (over s.tasks depth))) fault (W.failed out.new) (W.out out.old) (W.out out.new)) }
 {
-    tell_head(frame, names, out)?;
-    tell_contents(parts, shape, frame, names, out)?;
-    tell_loops(frame, names, out)?;
-    tell_trap(parts, depth, names, out)
+    report_head(frame, names, out)?;
+    report_contents(parts, shape, frame, names, out)?;
+    report_loops(frame, names, out)?;
+    report_trap(parts, depth, names, out)
 }
 
 /// Tells what stands at a depth, if it is a frame.
-fn tell_method<W: Sink>(
+fn report_method<W: Sink>(
     parts: &Parts,
     checked: &Checked,
     depth: usize,
@@ -202,21 +207,21 @@ fn tell_method<W: Sink>(
 ) -> Result<(), DebugFault>
     requires stands { Stands (record { image = checked.now; parts = parts.now }) }
     requires agrees { AgreesInAll (record { image = checked.now; parts = parts.now }) }
-    ensures ok { IfOk result (λ _. (t : Typing) → IsStrongest checked.now t → Tells (record { image = checked.now; parts = parts.now }) (λ s. answers_by names.now (frame_answers t s depth)) (W.out out.old) (W.out out.new)) }
-    ensures err { IfErr result (λ fault. (t : Typing) → IsStrongest checked.now t → TellsPart (record { image = checked.now; parts = parts.now }) (λ s. answers_by names.now (frame_answers t s depth)) fault (W.failed out.new) (W.out out.old) (W.out out.new)) }
+    ensures ok { IfOk result (λ _. (t : Typing) → IsStrongest checked.now t → Reports (record { image = checked.now; parts = parts.now }) (λ s. answers_by names.now (frame_answers t s depth)) (W.out out.old) (W.out out.new)) }
+    ensures err { IfErr result (λ fault. (t : Typing) → IsStrongest checked.now t → ReportsPart (record { image = checked.now; parts = parts.now }) (λ s. answers_by names.now (frame_answers t s depth)) fault (W.failed out.new) (W.out out.old) (W.out out.new)) }
 {
     let Some(frame) = frame_at(parts, depth) else {
         return Ok(());
     };
     match checked.shape(frame.method, frame.place) {
-        Some(shape) => tell_lines(parts, &shape, &frame, depth, names, out),
+        Some(shape) => report_lines(parts, &shape, &frame, depth, names, out),
         None => Ok(()),
     }
 }
 
 /// Tells the methods at hand, the outermost first: where each stands, its registers that are set, by what the strongest typing says
 /// that they are, its loops that have rounds left, and whether a trap called it.
-pub fn tell_frames<W: Sink>(
+pub fn report_frames<W: Sink>(
     parts: &Parts,
     accepted: &Accepted,
     names: &SourceNames,
@@ -224,11 +229,11 @@ pub fn tell_frames<W: Sink>(
 ) -> Result<(), DebugFault>
     requires stands { Stands (record { image = accepted.now; parts = parts.now }) }
     requires agrees { AgreesInAll (record { image = accepted.now; parts = parts.now }) }
-    ensures ok { IfOk result (λ _. (t : Typing) → IsStrongest accepted.now t → Tells (record { image = accepted.now; parts = parts.now }) (λ s. answers_by names.now (frames_answers t s)) (W.out out.old) (W.out out.new)) }
-    ensures err { IfErr result (λ fault. (t : Typing) → IsStrongest accepted.now t → TellsPart (record { image = accepted.now; parts = parts.now }) (λ s. answers_by names.now (frames_answers t s)) fault (W.failed out.new) (W.out out.old) (W.out out.new)) }
+    ensures ok { IfOk result (λ _. (t : Typing) → IsStrongest accepted.now t → Reports (record { image = accepted.now; parts = parts.now }) (λ s. answers_by names.now (frames_answers t s)) (W.out out.old) (W.out out.new)) }
+    ensures err { IfErr result (λ fault. (t : Typing) → IsStrongest accepted.now t → ReportsPart (record { image = accepted.now; parts = parts.now }) (λ s. answers_by names.now (frames_answers t s)) fault (W.failed out.new) (W.out out.old) (W.out out.new)) }
 {
     for depth in 0..parts.stack.len() {
-        tell_method(parts, accepted.checked(), depth, names, out)?;
+        report_method(parts, accepted.checked(), depth, names, out)?;
     }
     Ok(())
 }

@@ -6,8 +6,8 @@ ghost use Rattle.aom_clients.specs.Clients.{client_at};
 ghost use Rattle.aom_machine.specs.Agreement.{AgreesInAll};
 ghost use Rattle.aom_image.specs.Image.{Image};
 ghost use Rattle.aom_machine_state.specs.Places.{session_with};
-ghost use Rattle.aom_machine_state.specs.Stands.{Stands, StandsFor};
-ghost use Rattle.aom_shape.specs.Kinds.{register as kind_in};
+ghost use Rattle.aom_machine_state.specs.Stands.{Stands, Refines};
+ghost use Rattle.aom_abstract_state.specs.Kinds.{register as kind_in};
 ghost use Rattle.aom_semantics.specs.Places.{Register as In_register_of};
 ghost use Rattle.aom_semantics.specs.State.{State};
 ghost use Rattle.aom_debug_views.specs.Holdings.{HasNumber, HoldsSo, IsOwner, place_of};
@@ -16,13 +16,13 @@ ghost use Rattle.aom_debug_views.specs.Owners.{Shows, may_own};
 use crate::cleanup::class_of;
 use crate::owners::{frame_at, going_number, item_number, may_own};
 use crate::tree::{session_in, source_at};
+use aom_abstract_state::AbstractState;
 use aom_budget::Accepted;
 use aom_cells::NULL;
-use aom_debug_words::Source;
+use aom_debug_protocol::Source;
 use aom_frames::Frame;
 use aom_instructions::{FieldIndex, Register};
 use aom_machine_state::Parts;
-use aom_shape::Shape;
 use aom_verify::Checked;
 
 /// A place that may own an object or a message. Depths and heights are counted from the bottom, cells are named by their numbers.
@@ -55,7 +55,7 @@ pub enum Holding {
 }
 
 /// The number in a register, and null where it may own nothing.
-fn register_in(shape: &Shape<'_>, frame: &Frame, register: Register) -> u32
+fn register_in(shape: &AbstractState<'_>, frame: &Frame, register: Register) -> u32
     ensures { result ≡ cond (may_own (kind_in shape.now register)) (slice_index_or frame.now.registers register null) null }
 {
     let register = register.number();
@@ -144,7 +144,7 @@ pub fn held_at(parts: &Parts, accepted: &Accepted, owner: Owner) -> Holding
     requires stands { Stands (record { image = accepted.now; parts = parts.now }) }
     requires agrees { AgreesInAll (record { image = accepted.now; parts = parts.now }) }
     requires owner { IsOwner owner }
-    ensures { (s : State) → StandsFor (record { image = accepted.now; parts = parts.now }) s → HoldsSo s (place_of owner) result }
+    ensures { (s : State) → Refines (record { image = accepted.now; parts = parts.now }) s → HoldsSo s (place_of owner) result }
 {
     holding_of(parts, number_at(parts, accepted, owner))
 }

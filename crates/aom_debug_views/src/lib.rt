@@ -2,10 +2,10 @@
 //! methods at hand, the time, the breakpoints and the latest instructions.
 //!
 //! Each call takes the machine's parts by `&` and writes lines to a `Sink`. It promises that what went out is the text of the lines that
-//! its definition says of each state that the machine stands for (`Tells` of `specs/Telling.antt`, with `specs/Sights.antt` and
-//! `specs/Owners.antt`), or a beginning of it where the sink failed (`TellsPart`), and then it answers a write fault. Each object has just one
-//! line in the map of owners (`owners_are_told_once`), and active objects can stand in one order alone (`order_of_choice_is_one`). Classes,
-//! methods and instructions are spelled with the names and the lines of a text, where there is one (`aom_debug_names`). Nothing here takes
+//! its definition says of each state that the machine stands for (`Reports` of `specs/Reporting.antt`, with `specs/CellViews.antt` and
+//! `specs/Owners.antt`), or a beginning of it where the sink failed (`ReportsPart`), and then it answers a write fault. Each object has just one
+//! line in the map of owners (`owners_are_reported_once`), and active objects can stand in one order alone (`order_of_choice_is_one`). Classes,
+//! methods and instructions are spelled with the names and the lines of a text, where there is one (`aom_debug_symbols`). Nothing here takes
 //! memory, by signature. It knows no commands and no natives.
 #![tactic(auto)]
 
@@ -24,15 +24,15 @@ mod timers;
 mod tree;
 mod way;
 
-pub use actives::tell_actives;
-pub use breaks::tell_breaks;
-pub use cells::tell_cells;
-pub use cleanup::tell_cleanup;
-pub use clock::tell_clock;
-pub use frames::tell_frames;
+pub use actives::report_actives;
+pub use breaks::report_breaks;
+pub use cells::report_cells;
+pub use cleanup::report_cleanup;
+pub use clock::report_clock;
+pub use frames::report_frames;
 pub use holding::{Holding, Owner, held_at};
-pub use laws::{order_of_choice_is_one, owners_are_told_once};
-pub use owners::{entries_at, frames_at, goings_at, tell_owners};
-pub use recent::tell_recent;
-pub use sending::{send, tell, tell_any, tell_by};
-pub use timers::tell_timers;
+pub use laws::{order_of_choice_is_one, owners_are_reported_once};
+pub use owners::{entries_at, frames_at, goings_at, report_owners};
+pub use recent::report_recent;
+pub use sending::{report, report_any, report_by, send};
+pub use timers::report_timers;

@@ -1,17 +1,17 @@
 //! The latest instructions.
 ghost use Rattle.std.specs.Prelude.{◌≡◌, IfErr, IfOk, option_map, slice_get};
 ghost use Rattle.aom_transcript.specs.Sinks.{after};
-ghost use Rattle.aom_debug_words.specs.declared.answer.Answer.TheVariants.{Ran};
-ghost use Rattle.aom_debug_views.specs.Sights.{recent_answers};
-ghost use Rattle.aom_debug_views.specs.Telling.{IsCut, answers_by};
+ghost use Rattle.aom_debug_protocol.specs.declared.answer.Answer.TheVariants.{Ran};
+ghost use Rattle.aom_debug_views.specs.CellViews.{recent_answers};
+ghost use Rattle.aom_debug_views.specs.Reporting.{IsCut, answers_by};
 
-use crate::sending::tell_any_by;
-use aom_debug_names::SourceNames;
-use aom_debug_words::{Answer, DebugFault, Recent};
+use crate::sending::report_any_by;
+use aom_debug_protocol::{Answer, DebugFault, History};
+use aom_debug_symbols::SourceNames;
 use aom_transcript::Sink;
 
 /// The place at an index, from the oldest, as it is told.
-fn recent_answer(recent: &Recent, index: usize) -> Option<Answer>
+fn recent_answer(recent: &History, index: usize) -> Option<Answer>
     ensures { result ≡ option_map (λ spot. Ran spot) (slice_get recent.now index) }
 {
     match recent.at(index) {
@@ -21,8 +21,8 @@ fn recent_answer(recent: &Recent, index: usize) -> Option<Answer>
 }
 
 /// Tells the latest instructions, the oldest first.
-pub fn tell_recent<W: Sink>(
-    recent: &Recent,
+pub fn report_recent<W: Sink>(
+    recent: &History,
     names: &SourceNames,
     out: &mut W,
 ) -> Result<(), DebugFault>
@@ -30,7 +30,7 @@ pub fn tell_recent<W: Sink>(
     ensures err { IfErr result (λ fault. IsCut (answers_by names.now (recent_answers recent.now)) fault (W.failed out.new) (W.out out.old) (W.out out.new)) }
 {
     for index in 0..recent.count() {
-        tell_any_by(names, recent_answer(recent, index), out)?;
+        report_any_by(names, recent_answer(recent, index), out)?;
     }
     Ok(())
 }

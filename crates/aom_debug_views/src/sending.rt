@@ -2,13 +2,13 @@
 ghost use Rattle.std.specs.Prelude.{◌≡◌, IfErr, IfOk};
 ghost use Rattle.aom_transcript.specs.Text.{ended};
 ghost use Rattle.aom_transcript.specs.Sinks.{after};
-ghost use Rattle.aom_debug_words.specs.Answers.{answer_text};
-ghost use Rattle.aom_explain.specs.Sources.{spaced};
-ghost use Rattle.aom_debug_names.specs.Answers.{answer_by, behind, lead_text, statement_text};
-ghost use Rattle.aom_debug_views.specs.Telling.{IsCut, answers_by, answers_text, listed, tail_text};
+ghost use Rattle.aom_debug_protocol.specs.Answers.{answer_text};
+ghost use Rattle.aom_diagnostics.specs.Sources.{spaced};
+ghost use Rattle.aom_debug_symbols.specs.Answers.{answer_by, behind, lead_text, statement_text};
+ghost use Rattle.aom_debug_views.specs.Reporting.{IsCut, answers_by, answers_text, listed, tail_text};
 
-use aom_debug_names::{SourceNames, named_line, shown_statement};
-use aom_debug_words::{Answer, DebugFault, line_of};
+use aom_debug_protocol::{Answer, DebugFault, line_of};
+use aom_debug_symbols::{SourceNames, named_line, shown_statement};
 use aom_text::{Statement, WordCursor};
 use aom_transcript::{Sink, Text, write_text};
 
@@ -28,7 +28,7 @@ pub fn send<W: Sink>(text: &[u8], out: &mut W) -> Result<(), DebugFault>
 }
 
 /// Writes an answer on a line, by numbers alone. It is a write fault where the sink fails.
-pub fn tell<W: Sink>(answer: Answer, out: &mut W) -> Result<(), DebugFault>
+pub fn report<W: Sink>(answer: Answer, out: &mut W) -> Result<(), DebugFault>
     ensures ok { IfOk result (λ _. W.out out.new ≡ after (W.out out.old) (ended (answer_text answer))) }
     ensures err { IfErr result (λ fault. IsCut (ended (answer_text answer)) fault (W.failed out.new) (W.out out.old) (W.out out.new)) }
 {
@@ -37,12 +37,12 @@ pub fn tell<W: Sink>(answer: Answer, out: &mut W) -> Result<(), DebugFault>
 }
 
 /// Writes it if there is one.
-pub fn tell_any<W: Sink>(answer: Option<Answer>, out: &mut W) -> Result<(), DebugFault>
+pub fn report_any<W: Sink>(answer: Option<Answer>, out: &mut W) -> Result<(), DebugFault>
     ensures ok { IfOk result (λ _. W.out out.new ≡ after (W.out out.old) (answers_text (listed answer))) }
     ensures err { IfErr result (λ fault. IsCut (answers_text (listed answer)) fault (W.failed out.new) (W.out out.old) (W.out out.new)) }
 {
     match answer {
-        Some(answer) => tell(answer, out),
+        Some(answer) => report(answer, out),
         None => Ok(()),
     }
 }
@@ -103,18 +103,22 @@ fn send_shown<W: Sink>(head: &[u8], found: Option<Statement>, out: &mut W) -> Re
 }
 
 /// Writes an answer on a line by the names and the lines of a text, where there is one.
-pub fn tell_by<W: Sink>(names: &SourceNames, answer: Answer, out: &mut W) -> Result<(), DebugFault>
+pub fn report_by<W: Sink>(
+    names: &SourceNames,
+    answer: Answer,
+    out: &mut W,
+) -> Result<(), DebugFault>
     ensures ok { IfOk result (λ _. W.out out.new ≡ after (W.out out.old) (ended (answer_by names.now answer))) }
     ensures err { IfErr result (λ fault. IsCut (ended (answer_by names.now answer)) fault (W.failed out.new) (W.out out.old) (W.out out.new)) }
 {
     match named_line(names, answer) {
         Some(head) => send_shown(head.as_bytes(), shown_statement(names, answer), out),
-        None => tell(answer, out),
+        None => report(answer, out),
     }
 }
 
 /// Writes it if there is one.
-pub fn tell_any_by<W: Sink>(
+pub fn report_any_by<W: Sink>(
     names: &SourceNames,
     answer: Option<Answer>,
     out: &mut W,
@@ -123,7 +127,7 @@ pub fn tell_any_by<W: Sink>(
     ensures err { IfErr result (λ fault. IsCut (answers_by names.now (listed answer)) fault (W.failed out.new) (W.out out.old) (W.out out.new)) }
 {
     match answer {
-        Some(answer) => tell_by(names, answer, out),
+        Some(answer) => report_by(names, answer, out),
         None => Ok(()),
     }
 }

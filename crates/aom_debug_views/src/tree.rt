@@ -9,17 +9,17 @@ ghost use Rattle.aom_clients.specs.Lists.{IsIn};
 ghost use Rattle.aom_transcript.specs.Sinks.{after};
 ghost use Rattle.aom_semantics.specs.Places.{Place as PlaceOf, held};
 ghost use Rattle.aom_transcript.specs.Text.{ended};
-ghost use Rattle.aom_debug_names.specs.Names.{class_by};
-ghost use Rattle.aom_debug_names.specs.Answers.{hearer_by};
+ghost use Rattle.aom_debug_symbols.specs.NameLists.{class_by};
+ghost use Rattle.aom_debug_symbols.specs.Answers.{observer_by};
 ghost use Rattle.aom_debug_views.specs.Owners.{Outer, Shows, Way as WayRecord, grown, message_text, outer_text, owners_text, sender_of, source_at, tree, way_text};
-ghost use Rattle.aom_debug_views.specs.Telling.{IsCut, Tells, TellsPart};
+ghost use Rattle.aom_debug_views.specs.Reporting.{IsCut, Reports, ReportsPart};
 
 use crate::sending::send;
 use crate::way::{PathText, add_class, add_message, enter, enter_session};
 use aom_cells::{CellId, MessageId, NULL};
 use aom_clients::{Client, MessagePlace, NO_CELL};
-use aom_debug_names::SourceNames;
-use aom_debug_words::{DebugFault, Source};
+use aom_debug_protocol::{DebugFault, Source};
+use aom_debug_symbols::SourceNames;
 use aom_machine_state::Parts;
 use aom_transcript::Sink;
 
@@ -27,7 +27,7 @@ use aom_transcript::Sink;
 const GENERATIONS: usize = 257;
 
 /// Writes the line of an object of a class.
-fn tell_owned<W: Sink>(
+fn report_owned<W: Sink>(
     way: &mut PathText,
     class: u16,
     names: &SourceNames,
@@ -46,7 +46,7 @@ fn tell_owned<W: Sink>(
 }
 
 /// Writes the line of a message.
-fn tell_sent<W: Sink>(
+fn report_sent<W: Sink>(
     way: &mut PathText,
     source: Source,
     names: &SourceNames,
@@ -54,8 +54,8 @@ fn tell_sent<W: Sink>(
 ) -> Result<(), DebugFault>
     requires { length way.old + 40 ≤ 1536 }
     ensures same { way.new ≡ way.old }
-    ensures ok { IfOk result (λ _. W.out out.new ≡ after (W.out out.old) (ended (way.old ++ codes " " ++ hearer_by names.now source))) }
-    ensures err { IfErr result (λ fault. IsCut (ended (way.old ++ codes " " ++ hearer_by names.now source)) fault (W.failed out.new) (W.out out.old) (W.out out.new)) }
+    ensures ok { IfOk result (λ _. W.out out.new ≡ after (W.out out.old) (ended (way.old ++ codes " " ++ observer_by names.now source))) }
+    ensures err { IfErr result (λ fault. IsCut (ended (way.old ++ codes " " ++ observer_by names.now source)) fault (W.failed out.new) (W.out out.old) (W.out out.new)) }
 {
     let length = way.len();
     add_message(way, names, source);
@@ -92,7 +92,7 @@ pub(crate) fn source_at(parts: &Parts, number: u32) -> Option<Source>
 }
 
 /// Writes the line of the message of that number, if there is one.
-fn tell_message<W: Sink>(
+fn report_message<W: Sink>(
     parts: &Parts,
     way: &mut PathText,
     number: u32,
@@ -106,7 +106,7 @@ fn tell_message<W: Sink>(
     ensures err { IfErr result (λ fault. IsCut (message_text names.now way.old (source_at parts.now number)) fault (W.failed out.new) (W.out out.old) (W.out out.new)) }
 {
     match source_at(parts, number) {
-        Some(source) => tell_sent(way, source, names, out),
+        Some(source) => report_sent(way, source, names, out),
         None => Ok(()),
     }
 }
@@ -163,7 +163,7 @@ fn session_number(parts: &Parts, id: CellId, client: u8) -> u32
 }
 
 /// Writes the line of what has that number, if it is one's, and so many generations of what hangs from it.
-fn tell_tree<W: Sink>(
+fn report_tree<W: Sink>(
     parts: &Parts,
     way: &mut PathText,
     number: u32,
@@ -174,20 +174,20 @@ fn tell_tree<W: Sink>(
     requires room { length way.old + 5 * depth + 40 ≤ 1536 }
     requires stands { (p : Image) × Stands (record { image = p; parts = parts.now }) }
     ensures same { IfOk result (λ _. way.new ≡ way.old) }
-    ensures ok { IfOk result (λ _. (p : Image) (w : WayRecord) (r : PlaceOf) → way.old ≡ way_text w → Shows (record { image = p; parts = parts.now }) number r → Tells (record { image = p; parts = parts.now }) (λ s. owners_text names.now (tree s.cells depth w (held s.cells r))) (W.out out.old) (W.out out.new)) }
-    ensures err { IfErr result (λ fault. (p : Image) (w : WayRecord) (r : PlaceOf) → way.old ≡ way_text w → Shows (record { image = p; parts = parts.now }) number r → TellsPart (record { image = p; parts = parts.now }) (λ s. owners_text names.now (tree s.cells depth w (held s.cells r))) fault (W.failed out.new) (W.out out.old) (W.out out.new)) }
+    ensures ok { IfOk result (λ _. (p : Image) (w : WayRecord) (r : PlaceOf) → way.old ≡ way_text w → Shows (record { image = p; parts = parts.now }) number r → Reports (record { image = p; parts = parts.now }) (λ s. owners_text names.now (tree s.cells depth w (held s.cells r))) (W.out out.old) (W.out out.new)) }
+    ensures err { IfErr result (λ fault. (p : Image) (w : WayRecord) (r : PlaceOf) → way.old ≡ way_text w → Shows (record { image = p; parts = parts.now }) number r → ReportsPart (record { image = p; parts = parts.now }) (λ s. owners_text names.now (tree s.cells depth w (held s.cells r))) fault (W.failed out.new) (W.out out.old) (W.out out.new)) }
 {
     if depth == 0 {
         return Ok(());
     }
     let Some(id) = parts.cells.find(number) else {
-        return tell_message(parts, way, number, names, out);
+        return report_message(parts, way, number, names, out);
     };
-    tell_owned(way, parts.cells.class(id), names, out)?;
+    report_owned(way, parts.cells.class(id), names, out)?;
     let length = way.len();
     for field in 0..8u8 {
         enter(way, field);
-        tell_tree(
+        report_tree(
             parts,
             way,
             parts.cells.field(id, field),
@@ -201,7 +201,7 @@ fn tell_tree<W: Sink>(
     let mut next = first_session(parts, id);
     while let Some(client) = next {
         enter_session(way, client);
-        tell_tree(
+        report_tree(
             parts,
             way,
             session_number(parts, id, client),
@@ -216,7 +216,7 @@ fn tell_tree<W: Sink>(
 }
 
 /// Writes all that hangs from an outer place that has that number.
-pub(crate) fn tell_place<W: Sink>(
+pub(crate) fn report_place<W: Sink>(
     parts: &Parts,
     mut way: PathText,
     number: u32,
@@ -225,8 +225,8 @@ pub(crate) fn tell_place<W: Sink>(
 ) -> Result<(), DebugFault>
     requires short { length way ≤ 48 }
     requires stands { (p : Image) × Stands (record { image = p; parts = parts.now }) }
-    ensures ok { IfOk result (λ _. (p : Image) (outer : Outer) (r : PlaceOf) → way ≡ outer_text outer → Shows (record { image = p; parts = parts.now }) number r → Tells (record { image = p; parts = parts.now }) (λ s. owners_text names.now (grown s.cells outer r)) (W.out out.old) (W.out out.new)) }
-    ensures err { IfErr result (λ fault. (p : Image) (outer : Outer) (r : PlaceOf) → way ≡ outer_text outer → Shows (record { image = p; parts = parts.now }) number r → TellsPart (record { image = p; parts = parts.now }) (λ s. owners_text names.now (grown s.cells outer r)) fault (W.failed out.new) (W.out out.old) (W.out out.new)) }
+    ensures ok { IfOk result (λ _. (p : Image) (outer : Outer) (r : PlaceOf) → way ≡ outer_text outer → Shows (record { image = p; parts = parts.now }) number r → Reports (record { image = p; parts = parts.now }) (λ s. owners_text names.now (grown s.cells outer r)) (W.out out.old) (W.out out.new)) }
+    ensures err { IfErr result (λ fault. (p : Image) (outer : Outer) (r : PlaceOf) → way ≡ outer_text outer → Shows (record { image = p; parts = parts.now }) number r → ReportsPart (record { image = p; parts = parts.now }) (λ s. owners_text names.now (grown s.cells outer r)) fault (W.failed out.new) (W.out out.old) (W.out out.new)) }
 {
-    tell_tree(parts, &mut way, number, GENERATIONS, names, out)
+    report_tree(parts, &mut way, number, GENERATIONS, names, out)
 }

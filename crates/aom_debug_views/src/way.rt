@@ -1,13 +1,13 @@
 //! The way to an object, as its line begins.
 ghost use Rattle.std.specs.Prelude.{◌≡◌, ◌≤◌, ◌<◌, ◌+◌, ◌++◌, codes, decimal, length, take};
 ghost use Rattle.aom_transcript.specs.Text.{ended};
-ghost use Rattle.aom_debug_names.specs.Names.{class_by};
-ghost use Rattle.aom_debug_names.specs.Answers.{hearer_by};
+ghost use Rattle.aom_debug_symbols.specs.NameLists.{class_by};
+ghost use Rattle.aom_debug_symbols.specs.Answers.{observer_by};
 ghost use Rattle.aom_debug_views.specs.Owners.{branch_text, outer_text};
 ghost use Rattle.aom_debug_views.specs.Owners.{At_root, At_service, By_field, By_session, In_entry, In_going, In_register};
 
-use aom_debug_names::{SourceNames, add_class_name};
-use aom_debug_words::Source;
+use aom_debug_protocol::Source;
+use aom_debug_symbols::{SourceNames, add_class_name};
 use aom_transcript::Text;
 
 /// An outer place takes at most 48 bytes, each of 257 fields or sessions at most 5, and what is there at most 40.
@@ -98,7 +98,7 @@ pub(crate) fn enter_session(way: &mut PathText, client: u8)
 /// Who hears when the message that is there is completed, behind the way, and the end of its line.
 pub(crate) fn add_message(way: &mut PathText, names: &SourceNames, source: Source)
     requires { length way.old + 40 ≤ 1536 }
-    ensures { way.new ≡ ended (way.old ++ codes " " ++ hearer_by names.now source) }
+    ensures { way.new ≡ ended (way.old ++ codes " " ++ observer_by names.now source) }
 {
     match source {
         Source::Client(client) => way.add_count(b" msg ", client),

@@ -14,16 +14,16 @@ use Rattle.aom_clients.specs.declared.refusal.CommandRefusal.{CommandRefusal}
 use Rattle.aom_determinism.proofs.SafetyLemmas.{Same, asked_there, client_here, client_there, dispatched_so, goes_same, held_served, on_none, same_requested}
 use Rattle.aom_determinism.proofs.SafetyLemmas.{service_here, service_left, service_moved, service_there, service_unnamed}
 use Rattle.aom_transcript.specs.declared.event.ClientCommand.{ClientCommand}
-use Rattle.aom_semantics.specs.Clients.{Listed, asked_server, client_at, commanded, connecting, leaving, own, sending, told, with_client, with_message}
+use Rattle.aom_semantics.specs.Clients.{Listed, asked_server, client_at, commanded, connecting, leaving, own, sending, reported, with_client, with_message}
 use Rattle.aom_semantics.specs.Requests.{part_of}
 use Rattle.aom_safety.specs.Kept.{ClientsFit, is_connect_of}
 use Rattle.aom_semantics.specs.Places.{Asked, Cell, Close_of, Connect_of, Elsewhere, In_service, Message_of, Object, Queued}
-use Rattle.aom_semantics.specs.Places.{Service, Session, Tidy, held, moved, named, service_of, unserved}
+use Rattle.aom_semantics.specs.Places.{Service, Session, NoDuplicates, held, moved, named, service_of, unserved}
 use Rattle.aom_semantics.specs.Servers.{asked_last, is_server, reserved, stays, taken_first, withdrawn}
-use Rattle.aom_semantics.specs.State.{Accepts, Goes, Of_server, Seat, State}
+use Rattle.aom_semantics.specs.State.{Accepts, Goes, Of_server, OwnedObject, State}
 use Rattle.aom_semantics.specs.World.{picked, serves_first, accepting, attended, attending, parting_with, taken_from, dispatched}
-use Rattle.aom_determinism.proofs.Remaining.{AllWait, calm_waits, plain_there}
-use Rattle.aom_determinism.proofs.Keeping.{Calm, calm_moved, calm_reserved}
+use Rattle.aom_determinism.proofs.Remaining.{AllWait, unchanged_calls_waits, plain_there}
+use Rattle.aom_determinism.proofs.Keeping.{UnchangedCalls, unchanged_calls_moved, unchanged_calls_reserved}
 use Rattle.aom_determinism.proofs.Moving.{dispatch_begun}
 use Rattle.aom_determinism.specs.There.{AllThere, AreThere, waits}
 
@@ -38,7 +38,7 @@ module _ (cs : List Cell) (o : Object) (lives : named cs o.name ≡ Some o) (e :
   taken_waits n c none h = grind (arith, nat_tests, eqb-true o.name n, service_here cs o.name, service_there cs o.name n)
 
   -- its connect is served, or none is lost
-  accepted_waits : (clients : List Client) (x : Seat) (k : ℕ) → x.object ≡ o → e ≡ Connect_of k → AllWait clients cs →
+  accepted_waits : (clients : List Client) (x : OwnedObject) (k : ℕ) → x.object ≡ o → e ≡ Connect_of k → AllWait clients cs →
       AreThere clients then (Some (Of_server x k Accepts))
   accepted_waits clients x k same first all = record { asked = asked; serves = tt }
     where
@@ -54,7 +54,7 @@ module _ (cs : List Cell) (o : Object) (lives : named cs o.name ≡ Some o) (e :
 pub same_waits : (clients : List Client) (cs cs' : List Cell) → Same cs cs' → AllWait clients cs → AllWait clients cs'
 same_waits clients cs cs' like all n c e = ap (λ v. list_any (is_connect_of c) v.queue) (like.service_so n) ∙ all n c e
 
-module _ (p : Image) (s u : State) (all : AllWait s.clients s.cells) (x : Seat) (lives : named s.cells x.object.name ≡ Some x.object) where
+module _ (p : Image) (s u : State) (all : AllWait s.clients s.cells) (x : OwnedObject) (lives : named s.cells x.object.name ≡ Some x.object) where
   abbrev n : ℕ
   n = x.object.name
 
@@ -71,17 +71,17 @@ module _ (p : Image) (s u : State) (all : AllWait s.clients s.cells) (x : Seat) 
       cells : List Cell
       cells = reserved taken_first n s.cells
 
-      calm : Calm cells (moved (Elsewhere (Queued n m)) (Elsewhere In_service) cells)
-      calm = calm_moved cells (Elsewhere (Queued n m)) (Elsewhere In_service) (λ n c. refl) (λ n c. refl)
+      unchanged_calls : UnchangedCalls cells (moved (Elsewhere (Queued n m)) (Elsewhere In_service) cells)
+      unchanged_calls = unchanged_calls_moved cells (Elsewhere (Queued n m)) (Elsewhere In_service) (λ n c. refl) (λ n c. refl)
 
       waiting : AllWait s.clients (moved (Elsewhere (Queued n m)) (Elsewhere In_service) cells)
-      waiting = calm_waits s.clients cells _ calm (others_wait s.cells x.object lives (Message_of c m) es queue s.clients (λ d. refl) all)
+      waiting = unchanged_calls_waits s.clients cells _ unchanged_calls (others_wait s.cells x.object lives (Message_of c m) es queue s.clients (λ d. refl) all)
 
       go : (k : Option ℕ) → attending k x c o m (taken_from n s) ≡ Goes u → AllThere u
       go None e = cc
       go (Some k) e = subst AllThere (goes_same _ u e) (record {
         asked = λ i d f. ap (λ b. b || false) (waiting i d f);
-        serves = calm.places n c ∙ held_served s.cells n (taken_first (service_of s.cells n)) (Elsewhere (Session n c)) ∙ at;
+        serves = unchanged_calls.places n c ∙ held_served s.cells n (taken_first (service_of s.cells n)) (Elsewhere (Session n c)) ∙ at;
       })
 
   close_there : (c : ℕ) (es : List Asked) → (service_of s.cells n).queue ≡ Close_of c ∷ es → (o : Option Object) →
@@ -115,7 +115,7 @@ stays_connects c d (Message_of i m ∷ es) other h = grind (arith, nat_tests, st
 stays_connects c d (Close_of i ∷ es) other h = stays_connects c d es other h
 stays_connects c d (Connect_of i ∷ es) other h = grind (arith, nat_tests, stays_connects c d es other, ne_eqb i c, eq-eqb c d, eqb-true i d)
 
-module _ (p : Image) (client : ℕ) (s : State) (tidy : Tidy s.cells) (fit : ClientsFit p s.clients s.cells)
+module _ (p : Image) (client : ℕ) (s : State) (no_duplicates : NoDuplicates s.cells) (fit : ClientsFit p s.clients s.cells)
     (waiting : (n m : ℕ) (o : Object) → held s.cells (Elsewhere (Queued n m)) ≡ Some o → is_server p o.thing ≡ false) (all : AllWait s.clients s.cells) where
   abbrev StillWait : State → Type 0
   StillWait u = AllWait u.clients u.cells
@@ -129,12 +129,12 @@ module _ (p : Image) (client : ℕ) (s : State) (tidy : Tidy s.cells) (fit : Cli
       cells : List Cell
       cells = reserved (asked_last (Connect_of client)) x.name s.cells
 
-      calm : Calm s.cells cells
-      calm = calm_reserved (asked_last (Connect_of client)) (last_keeps (Connect_of client)) s.cells x.name
+      unchanged_calls : UnchangedCalls s.cells cells
+      unchanged_calls = unchanged_calls_reserved (asked_last (Connect_of client)) (last_keeps (Connect_of client)) s.cells x.name
 
       its_own : x.name ≡ n → client ≡ d → waits cells n d ≡ true
       its_own at same =
-          let l = asked_there p class s.cells x tidy listed in
+          let l = asked_there p class s.cells x no_duplicates listed in
           let lives : named s.cells x.name ≡ Some l.0 = ap (λ k. named s.cells k) (sym l.1) ∙ l.2 in
           let q = (service_of s.cells x.name).queue in
           ap (λ k. waits cells k d) (sym at) ∙ ap (λ v. list_any (is_connect_of d) v.queue)
@@ -151,42 +151,42 @@ module _ (p : Image) (client : ℕ) (s : State) (tidy : Tidy s.cells) (fit : Cli
           let now = ap (λ k. client_at (with_client client (Connecting x.name slots) s.clients) k) (sym at)
           ∙ client_here client (Connecting x.name slots) s.clients in
           its_own (eqb-true x.name n (ap (is_connecting_at n) (sym now) ∙ e)) at
-      go false other = calm.connects n d (all n d (ap (is_connecting_at n) (sym (client_there client d (Connecting x.name slots) s.clients other)) ∙ e))
+      go false other = unchanged_calls.connects n d (all n d (ap (is_connecting_at n) (sym (client_there client d (Connecting x.name slots) s.clients other)) ∙ e))
 
   sending_waits : (r : Option CommandRefusal) (x : Client) (name : ℕ) → named s.cells name ≡ None → (words : List ℤ) → StillWait (sending p client s r x name words)
   sending_waits (Some r) x name free words = all
   sending_waits None (Open server session slots) name free words = λ n d e. go n d (name == n) refl (all n d e)
     where
       sent : Service
-      sent = record unserved { sender = Some (record { client = client; holds_slot = true; is_told = true }) }
+      sent = record unserved { sender = Some (record { client = client; holds_slot = true; is_reported = true }) }
 
-      calm : Calm s.cells (reserved (asked_last (Message_of client name)) server s.cells)
-      calm = calm_reserved (asked_last (Message_of client name)) (last_keeps (Message_of client name)) s.cells server
+      unchanged_calls : UnchangedCalls s.cells (reserved (asked_last (Message_of client name)) server s.cells)
+      unchanged_calls = unchanged_calls_reserved (asked_last (Message_of client name)) (last_keeps (Message_of client name)) s.cells server
 
       go : (n d : ℕ) (b : Bool) → (name == n) ≡ b → waits s.cells n d ≡ true → waits (with_message p client s name words server) n d ≡ true
       go n d true same h =
           let none = ap (λ k. service_of s.cells k) (sym (eqb-true name n same)) ∙ service_unnamed s.cells name free in
           absurd (true≢false (sym h ∙ ap (λ v. list_any (is_connect_of d) v.queue) none))
       go n d false other h = ap (λ b. list_any (is_connect_of d)
-          (cond b sent (service_of (reserved (asked_last (Message_of client name)) server s.cells) n)).queue) other ∙ calm.connects n d h
+          (cond b sent (service_of (reserved (asked_last (Message_of client name)) server s.cells) n)).queue) other ∙ unchanged_calls.connects n d h
   sending_waits None _ name free words = all
 
   leaving_waits : (to : Option Client) → ((n : ℕ) (k : Client) → to ≡ Some k → is_connecting_at n k ≡ false) → StillWait (leaving p client s to)
   leaving_waits None done n d e = all n d e
   leaving_waits (Some to) done n d e = go (client == d) refl
     where
-      told_keeps : (x : Client) (cs : List Cell) → waits cs n d ≡ true → waits (told p client s x cs) n d ≡ true
-      told_keeps (Open server session slots) cs h = (calm_reserved (asked_last (Close_of client)) (last_keeps (Close_of client)) cs server).connects n d h
-      told_keeps _ cs h = h
+      reported_keeps : (x : Client) (cs : List Cell) → waits cs n d ≡ true → waits (reported p client s x cs) n d ≡ true
+      reported_keeps (Open server session slots) cs h = (unchanged_calls_reserved (asked_last (Close_of client)) (last_keeps (Close_of client)) cs server).connects n d h
+      reported_keeps _ cs h = h
 
-      go : (b : Bool) → (client == d) ≡ b → waits (told p client s (own p client s) (withdrawn client s.cells)) n d ≡ true
+      go : (b : Bool) → (client == d) ≡ b → waits (reported p client s (own p client s) (withdrawn client s.cells)) n d ≡ true
       go true same =
           let now = ap (λ k. client_at (with_client client to s.clients) k) (sym (eqb-true client d same)) ∙ client_here client to s.clients in
           absurd (true≢false (sym e ∙ ap (is_connecting_at n) now ∙ done n to refl))
       go false other =
           let before = all n d (ap (is_connecting_at n) (sym (client_there client d to s.clients other)) ∙ e) in
-          let left = service_left p s.clients s.cells tidy fit client waiting n in
-          told_keeps (own p client s) (withdrawn client s.cells) (grind (arith, nat_tests, stays_connects client d))
+          let left = service_left p s.clients s.cells no_duplicates fit client waiting n in
+          reported_keeps (own p client s) (withdrawn client s.cells) (grind (arith, nat_tests, stays_connects client d))
 
   pub commanded_waits : (command : ClientCommand) (name : ℕ) → named s.cells name ≡ None → StillWait (commanded p client s command name)
   commanded_waits x name free = grind (arith, nat_tests, connecting_waits, sending_waits, leaving_waits)

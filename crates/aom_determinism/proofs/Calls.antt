@@ -11,17 +11,17 @@ use Rattle.aom_determinism.proofs.Cells.{Unchanged, meets_asked, meets_opened, o
 use Rattle.aom_determinism.proofs.Cells.{served_so, unchanged_asked, unchanged_itself, unchanged_opened}
 use Rattle.aom_determinism.proofs.Requests.{aborted_owed, cancelled_owed, completed_owed, idle_owed, issued_owed, started_owed}
 use Rattle.aom_determinism.specs.Owed.{Finds, FindsWell, SessionsHold, is_for, meets, meets_after, owes, owes_after, serves, serves_object, takes_on}
-use Rattle.aom_semantics.specs.Requests.{Asking, aborted, ended_cells, home_kind, in_phase, is_idle, issued_of}
-use Rattle.aom_semantics.specs.Requests.{on_request, own_request, pending, rerequested, status_of, thing_kind}
-use Rattle.aom_semantics.specs.Natives.{has_died, is_dead, is_owed, native_of, opens, own_session, resessioned, started}
+use Rattle.aom_semantics.specs.Requests.{Asking, aborted, ended_cells, receiver_kind, in_phase, is_idle, issued_of}
+use Rattle.aom_semantics.specs.Requests.{on_request, own_request, pending, request_updated, status_of, thing_kind}
+use Rattle.aom_semantics.specs.Natives.{has_died, is_dead, is_owed, native_of, opens, own_session, session_updated, started}
 use Rattle.aom_semantics.specs.Places.{Cell, Object, Request, in_session, named, requested, set_request, set_session}
-use Rattle.aom_semantics.specs.State.{Frame, Home, Inside, State, Task}
-use Rattle.aom_semantics.specs.Wanted.{An_open, A_start, An_ask, A_cancel, A_close, Asks, Cancels, Closes}
-use Rattle.aom_semantics.specs.Wanted.{Opens, Starts, Wanted, wanted_at, wanted_by, wanted_if}
+use Rattle.aom_semantics.specs.State.{Frame, Receiver, Inside, State, Task}
+use Rattle.aom_semantics.specs.NativeCall.{An_open, A_start, An_ask, A_cancel, A_close, Asks, Cancels, Closes}
+use Rattle.aom_semantics.specs.NativeCall.{Opens, Starts, NativeCall, wanted_at, wanted_by, wanted_if}
 use Rattle.aom_semantics.specs.Words.{read}
 
 -- the cells after a call with that answer
-pub record Told (p : Image) (answer : ℤ) (s : State) (w : Option Wanted) (cs : List Cell) : Type 0 where
+pub record Reported (p : Image) (answer : ℤ) (s : State) (w : Option NativeCall) (cs : List Cell) : Type 0 where
   pub finds : FindsWell p s w
   pub owes : (k m : ℕ) → owes p cs k m ≡ owes_after w answer k m (owes p s.cells k m)
   pub meets : (k m : ℕ) → meets p cs k m ≡ meets_after w answer k m (meets p s.cells k m)
@@ -40,9 +40,9 @@ for_one n x k m e = let both = and_parts (n == k) (x == m) e in (eqb-true n k bo
 
 -- ---- sessions hold after a call
 
-module _ (p : Image) (answer : ℤ) (s : State) (holds : SessionsHold p s) (w : Option Wanted) where
-  pub sessions_after : (u : State) → Told p answer s w u.cells → u.killed ≡ s.killed → SessionsHold p u
-  sessions_after u told killed = search (arith, nat_tests)
+module _ (p : Image) (answer : ℤ) (s : State) (holds : SessionsHold p s) (w : Option NativeCall) where
+  pub sessions_after : (u : State) → Reported p answer s w u.cells → u.killed ≡ s.killed → SessionsHold p u
+  sessions_after u reported killed = search (arith, nat_tests)
 
 -- ---- other changes before and after it
 
@@ -50,42 +50,42 @@ module _ (p : Image) (answer : ℤ) (s : State) (holds : SessionsHold p s) (w : 
 pub sessions_along : (p : Image) (s u : State) → Unchanged p s.cells u.cells → u.killed ≡ s.killed → SessionsHold p s → SessionsHold p u
 sessions_along p s u same killed holds = search (arith, nat_tests)
 
-pub told_along : (p : Image) (answer : ℤ) (s : State) (w : Option Wanted) (cs cs' : List Cell) → Unchanged p cs cs' → Told p answer s w cs → Told p answer s w cs'
-told_along p answer s w cs cs' same told = record { finds = told.finds; owes = λ k m. same.owes k m ∙ told.owes k m; meets = λ k m. same.meets k m ∙ told.meets k m }
+pub reported_along : (p : Image) (answer : ℤ) (s : State) (w : Option NativeCall) (cs cs' : List Cell) → Unchanged p cs cs' → Reported p answer s w cs → Reported p answer s w cs'
+reported_along p answer s w cs cs' same reported = record { finds = reported.finds; owes = λ k m. same.owes k m ∙ reported.owes k m; meets = λ k m. same.meets k m ∙ reported.meets k m }
 
-pub told_before : (p : Image) (answer : ℤ) (s u : State) → Unchanged p s.cells u.cells → ((k m : ℕ) → serves p u.cells k m ≡ serves p s.cells k m) →
-    u.killed ≡ s.killed → (w : Option Wanted) (cs : List Cell) → Told p answer u w cs → Told p answer s w cs
-told_before p answer s u same serving killed w cs told = record {
+pub reported_before : (p : Image) (answer : ℤ) (s u : State) → Unchanged p s.cells u.cells → ((k m : ℕ) → serves p u.cells k m ≡ serves p s.cells k m) →
+    u.killed ≡ s.killed → (w : Option NativeCall) (cs : List Cell) → Reported p answer u w cs → Reported p answer s w cs
+reported_before p answer s u same serving killed w cs reported = record {
   finds = grind (arith, nat_tests, owes);
-  owes = λ k m. told.owes k m ∙ ap (λ b. owes_after w answer k m b) (same.owes k m);
-  meets = λ k m. told.meets k m ∙ ap (λ b. meets_after w answer k m b) (same.meets k m);
+  owes = λ k m. reported.owes k m ∙ ap (λ b. owes_after w answer k m b) (same.owes k m);
+  meets = λ k m. reported.meets k m ∙ ap (λ b. meets_after w answer k m b) (same.meets k m);
 }
 
 -- ---- what instructions tell
 
 -- what a method works on lives
-abbrev pub IsAlive : List Cell → Home → Type 0
+abbrev pub IsAlive : List Cell → Receiver → Type 0
 IsAlive cs (Inside o from) = named cs o.name ≡ Some o
 IsAlive cs _ = Unit {0}
 
 module _ (p : Image) (answer : ℤ) (s : State) where
-  pub told_none : (cs : List Cell) → Unchanged p s.cells cs → Told p answer s None cs
-  told_none cs same = record { finds = tt; owes = same.owes; meets = same.meets }
+  pub reported_none : (cs : List Cell) → Unchanged p s.cells cs → Reported p answer s None cs
+  reported_none cs same = record { finds = tt; owes = same.owes; meets = same.meets }
 
   -- what a request is made with, at a native that is killed or not, in a session or not
   abbrev pub asking : (clock order : ℕ) (dead session : Bool) → Asking
   asking clock order dead session = record { clock = clock; order = order; started = started dead session answer }
 
   -- a request that is owed as before
-  pub asked_same : (h : Home) (r : Option Request) → is_owed r ≡ is_owed (own_request s.cells h) → Unchanged p s.cells (rerequested s.cells h r)
+  pub asked_same : (h : Receiver) (r : Option Request) → is_owed r ≡ is_owed (own_request s.cells h) → Unchanged p s.cells (request_updated s.cells h r)
   asked_same x r e = grind (arith, nat_tests, unchanged_itself p s.cells, unchanged_asked p s.cells)
 
   -- nothing is told of a request that is owed as before, nor of a session that is as it was
-  asked_alike : (o : Object) (r : Option Request) → is_owed r ≡ is_owed (requested s.cells o.name) → Told p answer s None (set_request o.name r s.cells)
-  asked_alike o r e = told_none _ (unchanged_asked p s.cells o r (λ k. ap (λ b. serves p s.cells k o.name && b) e))
+  asked_alike : (o : Object) (r : Option Request) → is_owed r ≡ is_owed (requested s.cells o.name) → Reported p answer s None (set_request o.name r s.cells)
+  asked_alike o r e = reported_none _ (unchanged_asked p s.cells o r (λ k. ap (λ b. serves p s.cells k o.name && b) e))
 
-  opened_alike : (o : Object) (b : Bool) → b ≡ in_session s.cells o.name → Told p answer s None (set_session o.name b s.cells)
-  opened_alike o b e = told_none _ (unchanged_opened p s.cells o b (λ k. ap (λ b. serves p s.cells k o.name && b) e))
+  opened_alike : (o : Object) (b : Bool) → b ≡ in_session s.cells o.name → Reported p answer s None (set_session o.name b s.cells)
+  opened_alike o b e = reported_none _ (unchanged_opened p s.cells o b (λ k. ap (λ b. serves p s.cells k o.name && b) e))
 
   -- an object that no native serves owes nothing, whatever its request and its session
   module _ (o : Object) (lives : named s.cells o.name ≡ Some o) (native : native_of (thing_kind p o.thing) ≡ None) where
@@ -95,11 +95,11 @@ module _ (p : Image) (answer : ℤ) (s : State) where
     pub still : (k : ℕ) (b c : Bool) → (serves p s.cells k o.name && b) ≡ (serves p s.cells k o.name && c)
     still k b c = ap (λ x. x && b) (unserved k) ∙ sym (ap (λ x. x && c) (unserved k))
 
-    asked_elsewhere : (r : Option Request) → Told p answer s None (set_request o.name r s.cells)
-    asked_elsewhere r = told_none _ (unchanged_asked p s.cells o r (λ k. still k (is_owed r) (is_owed (requested s.cells o.name))))
+    asked_elsewhere : (r : Option Request) → Reported p answer s None (set_request o.name r s.cells)
+    asked_elsewhere r = reported_none _ (unchanged_asked p s.cells o r (λ k. still k (is_owed r) (is_owed (requested s.cells o.name))))
 
-    opened_elsewhere : (b : Bool) → Told p answer s None (set_session o.name b s.cells)
-    opened_elsewhere b = told_none _ (unchanged_opened p s.cells o b (λ k. still k b (in_session s.cells o.name)))
+    opened_elsewhere : (b : Bool) → Reported p answer s None (set_session o.name b s.cells)
+    opened_elsewhere b = reported_none _ (unchanged_opened p s.cells o b (λ k. still k b (in_session s.cells o.name)))
 
   -- one that native n serves
   module _ (holds : SessionsHold p s) (o : Object) (lives : named s.cells o.name ≡ Some o) (n : ℕ) (native : native_of (thing_kind p o.thing) ≡ Some n) where
@@ -129,7 +129,7 @@ module _ (p : Image) (answer : ℤ) (s : State) where
     open_for owed = grind (arith, nat_tests, here)
 
     connects : (d x : Bool) → is_dead s.killed n ≡ d → in_session s.cells o.name ≡ x →
-        Told p answer s (wanted_if (not (d || x)) (Opens n o.name)) (set_session o.name (opens d x answer) s.cells)
+        Reported p answer s (wanted_if (not (d || x)) (Opens n o.name)) (set_session o.name (opens d x answer) s.cells)
     connects true true dead met = absurd (true≢false (sym dead ∙ alive_in met))
     connects true false dead met = opened_alike o false (sym met)
     connects false true dead met = opened_alike o true (sym met)
@@ -146,11 +146,11 @@ module _ (p : Image) (answer : ℤ) (s : State) where
       owed_then : (d x : Bool) → is_owed (then d x) ≡ ((not d && x) && takes_on answer)
       owed_then d x = issued_owed (thing_kind p o.thing) n (asking clock order d x) a (requested s.cells o.name) native idle ∙ started_owed d x answer
 
-      not_begun : (d x : Bool) → (not d && x) ≡ false → Told p answer s None (set_request o.name (then d x) s.cells)
+      not_begun : (d x : Bool) → (not d && x) ≡ false → Reported p answer s None (set_request o.name (then d x) s.cells)
       not_begun d x e = grind (arith, nat_tests, asked_alike o, owed_then d x, idle_owed)
 
       issues : (d x : Bool) → is_dead s.killed n ≡ d → in_session s.cells o.name ≡ x →
-          Told p answer s (wanted_if (not d && x) (Starts n o.name f w)) (set_request o.name (then d x) s.cells)
+          Reported p answer s (wanted_if (not d && x) (Starts n o.name f w)) (set_request o.name (then d x) s.cells)
       issues true x dead met = not_begun true x refl
       issues false false dead met = not_begun false false refl
       issues false true dead met = record {
@@ -159,16 +159,16 @@ module _ (p : Image) (answer : ℤ) (s : State) where
         meets = meets_asked p s.cells o (then false true);
       }
 
-    asks : (d x : Bool) (f w : ℤ) → is_dead s.killed n ≡ d → in_session s.cells o.name ≡ x → Told p answer s (wanted_if (not d && x) (Asks n o.name f w)) s.cells
+    asks : (d x : Bool) (f w : ℤ) → is_dead s.killed n ≡ d → in_session s.cells o.name ≡ x → Reported p answer s (wanted_if (not d && x) (Asks n o.name f w)) s.cells
     asks false true f w dead met = record {
       finds = found true (owes p s.cells n o.name) dead met (sym (ap (λ x. x && is_owed (requested s.cells o.name)) here));
       owes = λ k m. refl;
       meets = λ k m. refl;
     }
-    asks _ _ f w dead met = told_none _ (unchanged_itself p s.cells)
+    asks _ _ f w dead met = reported_none _ (unchanged_itself p s.cells)
 
     aborts : (b : Bool) → is_owed (requested s.cells o.name) ≡ b →
-        Told p answer s (wanted_if b (Cancels n o.name)) (set_request o.name (on_request aborted (requested s.cells o.name)) s.cells)
+        Reported p answer s (wanted_if b (Cancels n o.name)) (set_request o.name (on_request aborted (requested s.cells o.name)) s.cells)
     aborts false owed = asked_alike o _ (aborted_owed (requested s.cells o.name) ∙ sym owed)
     aborts true owed = record {
       finds = found true true (alive_in (open_for owed)) (open_for owed) owed;
@@ -177,7 +177,7 @@ module _ (p : Image) (answer : ℤ) (s : State) where
     }
 
     closes : is_owed (requested s.cells o.name) ≡ false → (b : Bool) → in_session s.cells o.name ≡ b →
-        Told p answer s (wanted_if b (Closes n o.name)) (set_session o.name false s.cells)
+        Reported p answer s (wanted_if b (Closes n o.name)) (set_session o.name false s.cells)
     closes unowed false met = opened_alike o false (sym met)
     closes unowed true met = record {
       finds = found true false (alive_in met) met unowed;
@@ -189,52 +189,52 @@ module _ (p : Image) (answer : ℤ) (s : State) where
 
 module _ (p : Image) (answer : ℤ) (s : State) (fr : Frame) (ts : List Task) where
   -- a method that cancels has its request completed as it ends
-  pub ended_same : not (is_cancel (method_role p fr.method) && int_eq (status_of (own_request s.cells fr.home)) pending) ≡ true →
+  pub ended_same : not (is_cancel (method_role p fr.method) && int_eq (status_of (own_request s.cells fr.receiver)) pending) ≡ true →
       Unchanged p s.cells (ended_cells p fr s.cells)
   ended_same e =
-      grind (arith, nat_tests, Unchanged p s.cells, unchanged_itself p s.cells, asked_same p answer s fr.home, cancelled_owed, completed_owed, not-true)
+      grind (arith, nat_tests, Unchanged p s.cells, unchanged_itself p s.cells, asked_same p answer s fr.receiver, cancelled_owed, completed_owed, not-true)
 
   module _ (holds : SessionsHold p s) where
-    pub connect_told : (h : Home) → IsAlive s.cells h → Told p answer s
-        (wanted_by s p fr ts h An_open) (resessioned s.cells h (opens (has_died s.killed (native_of (home_kind p h))) (own_session s.cells h) answer))
-    connect_told (Inside o from) alive = go (native_of (thing_kind p o.thing)) refl
+    pub connect_reported : (h : Receiver) → IsAlive s.cells h → Reported p answer s
+        (wanted_by s p fr ts h An_open) (session_updated s.cells h (opens (has_died s.killed (native_of (receiver_kind p h))) (own_session s.cells h) answer))
+    connect_reported (Inside o from) alive = go (native_of (thing_kind p o.thing)) refl
       where
         go : (x : Option ℕ) → native_of (thing_kind p o.thing) ≡ x →
-            Told p answer s (wanted_at s fr ts o x An_open) (set_session o.name (opens (has_died s.killed x) (in_session s.cells o.name) answer) s.cells)
+            Reported p answer s (wanted_at s fr ts o x An_open) (set_session o.name (opens (has_died s.killed x) (in_session s.cells o.name) answer) s.cells)
         go None e = opened_elsewhere p answer s o alive e _
         go (Some n) e = connects p answer s holds o alive n e (is_dead s.killed n) (in_session s.cells o.name) refl refl
-    connect_told _ alive = told_none p answer s _ (unchanged_itself p s.cells)
+    connect_reported _ alive = reported_none p answer s _ (unchanged_itself p s.cells)
 
-    pub issue_told : (clock order a b : ℕ) (h : Home) → IsAlive s.cells h → in_phase is_idle (own_request s.cells h) ≡ true →
-        Told p answer s (wanted_by s p fr ts h (A_start a b)) (rerequested s.cells h (on_request (issued_of (home_kind p h)
-        (asking p answer s clock order (has_died s.killed (native_of (home_kind p h))) (own_session s.cells h)) (read fr ts s a)) (own_request s.cells h)))
-    issue_told clock order a b (Inside o from) alive idle = go (native_of (thing_kind p o.thing)) refl
+    pub issue_reported : (clock order a b : ℕ) (h : Receiver) → IsAlive s.cells h → in_phase is_idle (own_request s.cells h) ≡ true →
+        Reported p answer s (wanted_by s p fr ts h (A_start a b)) (request_updated s.cells h (on_request (issued_of (receiver_kind p h)
+        (asking p answer s clock order (has_died s.killed (native_of (receiver_kind p h))) (own_session s.cells h)) (read fr ts s a)) (own_request s.cells h)))
+    issue_reported clock order a b (Inside o from) alive idle = go (native_of (thing_kind p o.thing)) refl
       where
         go : (x : Option ℕ) → native_of (thing_kind p o.thing) ≡ x →
-            Told p answer s (wanted_at s fr ts o x (A_start a b)) (set_request o.name (on_request (issued_of (thing_kind p o.thing)
+            Reported p answer s (wanted_at s fr ts o x (A_start a b)) (set_request o.name (on_request (issued_of (thing_kind p o.thing)
             (asking p answer s clock order (has_died s.killed x) (in_session s.cells o.name)) (read fr ts s a)) (requested s.cells o.name)) s.cells)
         go None e = asked_elsewhere p answer s o alive e _
         go (Some n) e = issues p answer s holds o alive n e clock order (read fr ts s a) _ _ idle (is_dead s.killed n) (in_session s.cells o.name) refl refl
-    issue_told clock order a b _ alive idle = told_none p answer s _ (unchanged_itself p s.cells)
+    issue_reported clock order a b _ alive idle = reported_none p answer s _ (unchanged_itself p s.cells)
 
-    pub ask_told : (b x : ℕ) (h : Home) → IsAlive s.cells h → Told p answer s (wanted_by s p fr ts h (An_ask b x)) s.cells
-    ask_told b x y alive = grind (arith, nat_tests, told_none p answer s, unchanged_itself p s.cells, asks p answer s holds)
+    pub ask_reported : (b x : ℕ) (h : Receiver) → IsAlive s.cells h → Reported p answer s (wanted_by s p fr ts h (An_ask b x)) s.cells
+    ask_reported b x y alive = grind (arith, nat_tests, reported_none p answer s, unchanged_itself p s.cells, asks p answer s holds)
 
-    pub abort_told : (h : Home) → IsAlive s.cells h →
-        Told p answer s (wanted_by s p fr ts h A_cancel) (rerequested s.cells h (on_request aborted (own_request s.cells h)))
-    abort_told (Inside o from) alive = go (native_of (thing_kind p o.thing)) refl
+    pub abort_reported : (h : Receiver) → IsAlive s.cells h →
+        Reported p answer s (wanted_by s p fr ts h A_cancel) (request_updated s.cells h (on_request aborted (own_request s.cells h)))
+    abort_reported (Inside o from) alive = go (native_of (thing_kind p o.thing)) refl
       where
         go : (x : Option ℕ) → native_of (thing_kind p o.thing) ≡ x →
-            Told p answer s (wanted_at s fr ts o x A_cancel) (set_request o.name (on_request aborted (requested s.cells o.name)) s.cells)
+            Reported p answer s (wanted_at s fr ts o x A_cancel) (set_request o.name (on_request aborted (requested s.cells o.name)) s.cells)
         go None e = asked_elsewhere p answer s o alive e _
         go (Some n) e = aborts p answer s holds o alive n e (is_owed (requested s.cells o.name)) refl
-    abort_told _ alive = told_none p answer s _ (unchanged_itself p s.cells)
+    abort_reported _ alive = reported_none p answer s _ (unchanged_itself p s.cells)
 
-    pub close_told : (h : Home) → IsAlive s.cells h → is_owed (own_request s.cells h) ≡ false →
-        Told p answer s (wanted_by s p fr ts h A_close) (resessioned s.cells h false)
-    close_told (Inside o from) alive unowed = go (native_of (thing_kind p o.thing)) refl
+    pub close_reported : (h : Receiver) → IsAlive s.cells h → is_owed (own_request s.cells h) ≡ false →
+        Reported p answer s (wanted_by s p fr ts h A_close) (session_updated s.cells h false)
+    close_reported (Inside o from) alive unowed = go (native_of (thing_kind p o.thing)) refl
       where
-        go : (x : Option ℕ) → native_of (thing_kind p o.thing) ≡ x → Told p answer s (wanted_at s fr ts o x A_close) (set_session o.name false s.cells)
+        go : (x : Option ℕ) → native_of (thing_kind p o.thing) ≡ x → Reported p answer s (wanted_at s fr ts o x A_close) (set_session o.name false s.cells)
         go None e = opened_elsewhere p answer s o alive e false
         go (Some n) e = closes p answer s holds o alive n e unowed (in_session s.cells o.name) refl
-    close_told _ alive unowed = told_none p answer s _ (unchanged_itself p s.cells)
+    close_reported _ alive unowed = reported_none p answer s _ (unchanged_itself p s.cells)

@@ -8,13 +8,13 @@ use Rattle.aom_image.specs.declared.method.Thing.{Thing}
 use Rattle.aom_determinism.specs.Laws.{BootOwesNothing}
 use Rattle.aom_determinism.specs.Owed.{meets, owes, serves}
 use Rattle.aom_determinism.proofs.SemanticsLemmas.{named_moved, named_without, requested_moved, requested_without, unnamed}
-use Rattle.aom_determinism.proofs.SafetyLemmas.{named_set_word, requested_here, requested_set_word, requested_there, rerequested_alike, resessioned_alike}
-use Rattle.aom_determinism.proofs.SafetyLemmas.{resessioned_requests, session_asked, session_moved, session_set_word, session_without}
+use Rattle.aom_determinism.proofs.SafetyLemmas.{named_set_word, requested_here, requested_set_word, requested_there, request_updated_alike, session_updated_alike}
+use Rattle.aom_determinism.proofs.SafetyLemmas.{session_updated_requests, session_asked, session_moved, session_set_word, session_without}
 use Rattle.aom_semantics.specs.Natives.{is_owed, is_served_by, native_of}
 use Rattle.aom_semantics.specs.Requests.{thing_kind}
-use Rattle.aom_semantics.specs.Places.{Cell, Elsewhere, Object, Place, Request, Root, Tidy, held, in_session}
+use Rattle.aom_semantics.specs.Places.{Cell, Elsewhere, Object, Place, Request, Root, NoDuplicates, held, in_session}
 use Rattle.aom_semantics.specs.Places.{moved, named, requested, set_request, set_session, with_new, without}
-use Rattle.aom_semantics.specs.State.{Home, Inside}
+use Rattle.aom_semantics.specs.State.{Receiver, Inside}
 use Rattle.aom_semantics.specs.Words.{stored}
 
 -- ---- a native serves what is of its class
@@ -63,7 +63,7 @@ unchanged_alike p cs cs' objects requests sessions = search (arith, nat_tests, o
 pub unchanged_moved : (p : Image) (cs : List Cell) (a b : Place) → Unchanged p cs (moved a b cs)
 unchanged_moved p cs a b = unchanged_alike p cs (moved a b cs) (λ m. named_moved cs a b m) (λ m. requested_moved cs a b m) (λ m. session_moved cs a b m)
 
-pub unchanged_stored : (p : Image) (cs : List Cell) (home : Home) (w : ℕ) (v : ℤ) → Unchanged p cs (stored cs home w v)
+pub unchanged_stored : (p : Image) (cs : List Cell) (receiver : Receiver) (w : ℕ) (v : ℤ) → Unchanged p cs (stored cs receiver w v)
 unchanged_stored p cs x w v =
     grind (arith, nat_tests, unchanged_itself p cs, unchanged_alike p cs, named_set_word cs, requested_set_word cs, session_set_word cs)
 
@@ -79,7 +79,7 @@ module _ (p : Image) (cs : List Cell) (o : Object) where
   owes_asked r k m = grind (
     arith,
     nat_tests,
-    rerequested_alike cs (Inside o (Elsewhere Root)) r,
+    request_updated_alike cs (Inside o (Elsewhere Root)) r,
     requested_here cs o.name r,
     owes p,
     owes p cs k m,
@@ -88,14 +88,14 @@ module _ (p : Image) (cs : List Cell) (o : Object) where
   )
 
   pub meets_asked : (r : Option Request) (k m : ℕ) → meets p (set_request o.name r cs) k m ≡ meets p cs k m
-  meets_asked r k m = grind (arith, nat_tests, rerequested_alike cs (Inside o (Elsewhere Root)) r, session_asked cs o.name r m)
+  meets_asked r k m = grind (arith, nat_tests, request_updated_alike cs (Inside o (Elsewhere Root)) r, session_asked cs o.name r m)
 
   pub meets_opened : (b : Bool) (k m : ℕ) → meets p (set_session o.name b cs) k m ≡ cond (o.name == m) (serves p cs k o.name && b) (meets p cs k m)
   meets_opened session k m =
-      grind (arith, nat_tests, resessioned_alike cs (Inside o (Elsewhere Root)) session, session_set cs o.name m session, meets p cs k m, eqb-true o.name m)
+      grind (arith, nat_tests, session_updated_alike cs (Inside o (Elsewhere Root)) session, session_set cs o.name m session, meets p cs k m, eqb-true o.name m)
 
   pub owes_opened : (b : Bool) (k m : ℕ) → owes p (set_session o.name b cs) k m ≡ owes p cs k m
-  owes_opened b k m = grind (arith, nat_tests, resessioned_alike cs (Inside o (Elsewhere Root)) b, resessioned_requests cs (Inside o (Elsewhere Root)) b m)
+  owes_opened b k m = grind (arith, nat_tests, session_updated_alike cs (Inside o (Elsewhere Root)) b, session_updated_requests cs (Inside o (Elsewhere Root)) b m)
 
   -- where that is as it was at the cell, nothing changes
   kept_at : (f : ℕ → Bool) (v : Bool) (m : ℕ) → v ≡ f o.name → cond (o.name == m) v (f m) ≡ f m
@@ -109,15 +109,15 @@ module _ (p : Image) (cs : List Cell) (o : Object) where
 
 -- ---- a cell goes
 
-module _ (p : Image) (cs : List Cell) (g : Place) (o : Object) (tidy : Tidy cs) (there : held cs g ≡ Some o) where
+module _ (p : Image) (cs : List Cell) (g : Place) (o : Object) (no_duplicates : NoDuplicates cs) (there : held cs g ≡ Some o) where
   serves_gone : (k m : ℕ) → (o.name == m) ≡ true → serves p (without g cs) k m ≡ false
-  serves_gone k m e = grind (arith, nat_tests, eqb-true o.name m e, unnamed cs g o tidy there)
+  serves_gone k m e = grind (arith, nat_tests, eqb-true o.name m e, unnamed cs g o no_duplicates there)
 
   pub owes_gone : (k m : ℕ) → owes p (without g cs) k m ≡ (not (o.name == m) && owes p cs k m)
-  owes_gone k m = grind (arith, nat_tests, owes p, owes p cs k m, serves_gone k m, named_without cs g o m tidy there, requested_without cs g o m tidy there)
+  owes_gone k m = grind (arith, nat_tests, owes p, owes p cs k m, serves_gone k m, named_without cs g o m no_duplicates there, requested_without cs g o m no_duplicates there)
 
   pub meets_gone : (k m : ℕ) → meets p (without g cs) k m ≡ (not (o.name == m) && meets p cs k m)
-  meets_gone k m = grind (arith, nat_tests, meets p, meets p cs k m, serves_gone k m, named_without cs g o m tidy there, session_without cs g o m tidy there)
+  meets_gone k m = grind (arith, nat_tests, meets p, meets p cs k m, serves_gone k m, named_without cs g o m no_duplicates there, session_without cs g o m no_duplicates there)
 
 -- ---- as a run begins
 

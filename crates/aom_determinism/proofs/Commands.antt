@@ -12,9 +12,9 @@ use Rattle.aom_clients.specs.declared.refusal.CommandRefusal.{CommandRefusal}
 use Rattle.aom_transcript.specs.declared.event.ClientCommand.{ClientCommand}
 use Rattle.aom_transcript.specs.declared.event.ClientCommand.TheVariants.{Close, Connect, Die, Send}
 use Rattle.aom_semantics.specs.Clients.{Listed, asked_of, asked_server, commanded, connecting, count_messages}
-use Rattle.aom_semantics.specs.Clients.{first_listed, leaving, own, refusal, room, sending, told, with_message}
+use Rattle.aom_semantics.specs.Clients.{first_listed, leaving, own, refusal, room, sending, reported, with_message}
 use Rattle.aom_semantics.specs.Places.{Asked, Cell, Close_of, Connect_of, Message_of, Service}
-use Rattle.aom_semantics.specs.Servers.{holds_slot, seats_taken, slots_taken, withdrawn}
+use Rattle.aom_semantics.specs.Servers.{holds_slot, sessions_in_use, slots_taken, withdrawn}
 use Rattle.aom_semantics.specs.State.{State}
 use Rattle.aom_determinism.proofs.NamedCells.{cond_applied}
 use Rattle.aom_determinism.proofs.Serving.{asks_renamed, client_renamed, service_renamed, with_client_renamed}
@@ -38,8 +38,8 @@ module _ (names : ℕ → ℕ) where
   filter_renamed f same [] = refl
   filter_renamed f same (e ∷ es) = grind (arith, nat_tests, filter_renamed f same es, cond_applied)
 
-  seats_kept : (v : Service) → seats_taken (renamed_service names v) ≡ seats_taken v
-  seats_kept v = grind (arith, nat_tests, filter_renamed, length-map)
+  owned_objects_kept : (v : Service) → sessions_in_use (renamed_service names v) ≡ sessions_in_use v
+  owned_objects_kept v = grind (arith, nat_tests, filter_renamed, length-map)
 
   -- ---- what a client leaves behind
 
@@ -70,7 +70,7 @@ module _ (names : ℕ → ℕ) where
 module _ (names : ℕ → ℕ) (one_to_one : IsOneToOne names) where
   asked_kept : (r : Option CommandRefusal) (most : ℕ) (l : Option Listed) (cs : List Cell) →
       asked_of r most (option_map (renamed_listed names) l) (renamed_cells names cs) ≡ asked_of r most l cs
-  asked_kept None most (Some x) cs = grind (arith, nat_tests, service_renamed names one_to_one cs x.name, seats_kept names)
+  asked_kept None most (Some x) cs = grind (arith, nat_tests, service_renamed names one_to_one cs x.name, owned_objects_kept names)
   asked_kept _ most _ cs = refl
 
   module _ (p : Image) (client : ℕ) (s : State) where
@@ -104,11 +104,11 @@ module _ (names : ℕ → ℕ) (one_to_one : IsOneToOne names) where
         sending p client s' r (renamed_client names x) (names name) words ≡ renamed names (sending p client s r x name words)
     sending_renamed x y name words = grind (arith, nat_tests, message_renamed name words)
 
-    told_renamed : (x : Client) (cs : List Cell) → told p client s' (renamed_client names x) (renamed_cells names cs) ≡ renamed_cells names (told p client s x cs)
-    told_renamed x cs = grind (arith, nat_tests, asks_renamed names one_to_one (Close_of client))
+    reported_renamed : (x : Client) (cs : List Cell) → reported p client s' (renamed_client names x) (renamed_cells names cs) ≡ renamed_cells names (reported p client s x cs)
+    reported_renamed x cs = grind (arith, nat_tests, asks_renamed names one_to_one (Close_of client))
 
     leaving_renamed : (to : Option Client) → leaving p client s' (option_map (renamed_client names) to) ≡ renamed names (leaving p client s to)
-    leaving_renamed x = grind (arith, nat_tests, own_renamed, withdrawn_renamed names client s.cells, told_renamed, with_client_renamed names client)
+    leaving_renamed x = grind (arith, nat_tests, own_renamed, withdrawn_renamed names client s.cells, reported_renamed, with_client_renamed names client)
 
     pub commanded_renamed : (command : ClientCommand) (name : ℕ) → commanded p client s' command (names name) ≡ renamed names (commanded p client s command name)
     commanded_renamed (Connect class slots) name =

@@ -9,19 +9,19 @@ use Rattle.aom_instructions.specs.declared.instr.Target.{Target}
 use Rattle.aom_instructions.specs.declared.instr.Target.TheVariants.{Entry as On_entry, Field as On_field, Register as On_register, This}
 use Rattle.aom_image.specs.declared.method.Gives.{Gives}
 use Rattle.aom_clients.specs.declared.client.Client.{Client}
-use Rattle.aom_semantics.specs.Calls.{accepted_cells, accepted_clients, answered_by, ended_well, home_at}
-use Rattle.aom_semantics.specs.Calls.{result_cells, returned, target_home, target_view}
-use Rattle.aom_semantics.specs.Cleanup.{code_told, dealt_with, destroyed, to_trap, top_place}
-use Rattle.aom_classes.specs.Roles.{destructor_of}
+use Rattle.aom_semantics.specs.Calls.{accepted_cells, accepted_clients, answered_by, ended_well, receiver_at}
+use Rattle.aom_semantics.specs.Calls.{result_cells, returned, target_receiver, target_view}
+use Rattle.aom_semantics.specs.Cleanup.{code_reported, dealt_with, destroyed, to_trap, top_place}
+use Rattle.aom_link_conditions.specs.Roles.{destructor_of}
 use Rattle.aom_semantics.specs.Destruction.{begun, begun_by, destructed, line_on}
 use Rattle.aom_semantics.specs.Effects.{Calls, Cancels, Carried, Destroys, Destroys_last, Effect, Goes_on, Leaves, Made, Popped}
 use Rattle.aom_semantics.specs.Effects.{Pushed, Requested, Returns, Sets_trap, Spot, Update, Written, applied}
 use Rattle.aom_semantics.specs.Effects.{cancels_if, cells_after, deals, deletes, effect, hands_unless, items_after, jumps_if, jumps_unless, makes_unless}
 use Rattle.aom_semantics.specs.Effects.{round, spot_place, Replied, Sessioned, Handed}
-use Rattle.aom_semantics.specs.Requests.{cancel_method, ended_cells, in_phase, is_active, own_request, rerequested}
+use Rattle.aom_semantics.specs.Requests.{cancel_method, ended_cells, in_phase, is_active, own_request, request_updated}
 use Rattle.aom_semantics.specs.Moves.{does, needs}
 use Rattle.aom_semantics.specs.Places.{Cell, Entry, Object, Place, Register, Request, held, moved}
-use Rattle.aom_semantics.specs.State.{An_object, Choice, Dispatch, Frame, Home, Item, Run, State, Task, Trapped, home_view}
+use Rattle.aom_semantics.specs.State.{An_object, Choice, Dispatch, Frame, Receiver, Item, Run, State, Task, Trapped, receiver_view}
 use Rattle.aom_semantics.specs.Words.{loaded, stored}
 use Rattle.aom_determinism.proofs.NamedCells.{held_renamed, messages_kept, moved_renamed, order_kept, redeemed_renamed, set_request_renamed}
 use Rattle.aom_determinism.proofs.NamedCells.{set_word_field_renamed, tasks_counted, timer_kept, token_kept, word_field_kept, in_session_kept}
@@ -31,8 +31,8 @@ use Rattle.aom_determinism.proofs.Needs.{call_kept, field_renamed, free_at, give
 use Rattle.aom_determinism.proofs.Needs.{own_request_kept, push_kept, pushed_renamed, put_kept, refusal_kept, register_renamed, reply_kept}
 use Rattle.aom_determinism.proofs.Needs.{return_kept, take_message_kept, trap_kept, under_trap_kept, view_kept, whole_kept}
 use Rattle.aom_determinism.specs.Names.{IsOneToOne, renamed, renamed_cells, renamed_clients, renamed_choice, renamed_dispatch}
-use Rattle.aom_determinism.specs.Names.{renamed_frame, renamed_home, renamed_object, renamed_place, renamed_tasks}
-use Rattle.aom_semantics.specs.Natives.{own_session, resessioned}
+use Rattle.aom_determinism.specs.Names.{renamed_frame, renamed_receiver, renamed_object, renamed_place, renamed_tasks}
+use Rattle.aom_semantics.specs.Natives.{own_session, session_updated}
 
 -- ---- an effect under other names: a new cell and one that goes have names
 
@@ -60,8 +60,8 @@ module _ (names : ℕ → ℕ) where
       destructed p (renamed_object names o) height (renamed_tasks names below) ≡ renamed_tasks names (destructed p o height below)
   destructed_renamed p o height below = begun_by_renamed p (destructor_of p o.thing) o height below
 
-  pub line_renamed : (p : Image) (m : ℕ) (home : Home) (height : ℕ) (below : List Task) →
-      line_on p m (renamed_home names home) height (renamed_tasks names below) ≡ renamed_tasks names (line_on p m home height below)
+  pub line_renamed : (p : Image) (m : ℕ) (receiver : Receiver) (height : ℕ) (below : List Task) →
+      line_on p m (renamed_receiver names receiver) height (renamed_tasks names below) ≡ renamed_tasks names (line_on p m receiver height below)
   line_renamed p m x height below = grind (arith, nat_tests, begun_by_renamed p)
 
   pub begun_renamed : (p : Image) (o : Object) (height : ℕ) (below : List Task) →
@@ -72,27 +72,27 @@ module _ (names : ℕ → ℕ) where
   to_trap_renamed (Run fr ∷ ts) = to_trap_renamed ts
   to_trap_renamed _ = refl
 
-  home_at_renamed : (o : Option Object) (q : Place) → home_at (option_map (renamed_object names) o) (renamed_place names q) ≡ renamed_home names (home_at o q)
-  home_at_renamed x q = grind arith
+  receiver_at_renamed : (o : Option Object) (q : Place) → receiver_at (option_map (renamed_object names) o) (renamed_place names q) ≡ renamed_receiver names (receiver_at o q)
+  receiver_at_renamed x q = grind arith
 
 module _ (names : ℕ → ℕ) (one_to_one : IsOneToOne names) where
   -- ---- words of cells
 
-  stored_renamed : (cs : List Cell) (h : Home) (w : ℕ) (v : ℤ) → stored (renamed_cells names cs) (renamed_home names h) w v ≡ renamed_cells names (stored cs h w v)
+  stored_renamed : (cs : List Cell) (h : Receiver) (w : ℕ) (v : ℤ) → stored (renamed_cells names cs) (renamed_receiver names h) w v ≡ renamed_cells names (stored cs h w v)
   stored_renamed cs x w v = grind (arith, nat_tests, set_word_field_renamed names one_to_one)
 
-  rerequested_renamed : (cs : List Cell) (h : Home) (r : Option Request) →
-      rerequested (renamed_cells names cs) (renamed_home names h) r ≡ renamed_cells names (rerequested cs h r)
-  rerequested_renamed cs x r = grind (arith, nat_tests, set_request_renamed names one_to_one)
+  request_updated_renamed : (cs : List Cell) (h : Receiver) (r : Option Request) →
+      request_updated (renamed_cells names cs) (renamed_receiver names h) r ≡ renamed_cells names (request_updated cs h r)
+  request_updated_renamed cs x r = grind (arith, nat_tests, set_request_renamed names one_to_one)
 
   -- ---- sessions
 
-  own_session_kept : (cs : List Cell) (h : Home) → own_session (renamed_cells names cs) (renamed_home names h) ≡ own_session cs h
+  own_session_kept : (cs : List Cell) (h : Receiver) → own_session (renamed_cells names cs) (renamed_receiver names h) ≡ own_session cs h
   own_session_kept cs x = grind (arith, nat_tests, in_session_kept names one_to_one cs)
 
-  resessioned_renamed : (cs : List Cell) (h : Home) (session : Bool) →
-      resessioned (renamed_cells names cs) (renamed_home names h) session ≡ renamed_cells names (resessioned cs h session)
-  resessioned_renamed cs x session = grind (arith, nat_tests, set_session_renamed names one_to_one)
+  session_updated_renamed : (cs : List Cell) (h : Receiver) (session : Bool) →
+      session_updated (renamed_cells names cs) (renamed_receiver names h) session ≡ renamed_cells names (session_updated cs h session)
+  session_updated_renamed cs x session = grind (arith, nat_tests, set_session_renamed names one_to_one)
 
   -- ---- what an item is dealt with
 
@@ -111,8 +111,8 @@ module _ (names : ℕ → ℕ) (one_to_one : IsOneToOne names) where
 -- ---- what a method goes on with
 
 module _ (names : ℕ → ℕ) where
-  pub told_renamed : (g : Gives) (a : ℕ) (code : ℤ) (fr : Frame) → code_told g a code (renamed_frame names fr) ≡ renamed_frame names (code_told g a code fr)
-  told_renamed x a code fr = grind arith
+  pub reported_renamed : (g : Gives) (a : ℕ) (code : ℤ) (fr : Frame) → code_reported g a code (renamed_frame names fr) ≡ renamed_frame names (code_reported g a code fr)
+  reported_renamed x a code fr = grind arith
 
   -- an answer names no cell
   answered_by_renamed : (answer : ℤ) (d : Dispatch) → answered_by answer (renamed_dispatch names d) ≡ renamed_dispatch names (answered_by answer d)
@@ -154,12 +154,12 @@ module _ (names : ℕ → ℕ) (one_to_one : IsOneToOne names) (p : Image) (c : 
     accepted_clients_renamed names,
     ended_well_renamed names,
     answered_by_renamed names,
-    line_renamed names p fr.method fr.home fr.height,
+    line_renamed names p fr.method fr.receiver fr.height,
   )
 
   -- the cells as a return begins
   ended_renamed : ended_cells p (renamed_frame names fr) (renamed_cells names s.cells) ≡ renamed_cells names (ended_cells p fr s.cells)
-  ended_renamed = grind (arith, nat_tests, own_request_kept names one_to_one s.cells fr.home, rerequested_renamed names one_to_one s.cells fr.home)
+  ended_renamed = grind (arith, nat_tests, own_request_kept names one_to_one s.cells fr.receiver, request_updated_renamed names one_to_one s.cells fr.receiver)
 
 module _ (names : ℕ → ℕ) (one_to_one : IsOneToOne names) (p : Image) (c : Choice) (fr : Frame) (ts : List Task) (s : State) where
   abbrev fr' : Frame
@@ -176,13 +176,13 @@ module _ (names : ℕ → ℕ) (one_to_one : IsOneToOne names) (p : Image) (c : 
 
   -- ---- calls
 
-  target_renamed : (target : Target) (class : Option ℕ) → target_home p fr' ts' s' target class ≡ renamed_home names (target_home p fr ts s target class)
+  target_renamed : (target : Target) (class : Option ℕ) → target_receiver p fr' ts' s' target class ≡ renamed_receiver names (target_receiver p fr ts s target class)
   target_renamed x class =
-      grind (arith, nat_tests, tasks_counted names ts, held_renamed names one_to_one s.cells, home_at_renamed names, field_renamed names fr.home)
+      grind (arith, nat_tests, tasks_counted names ts, held_renamed names one_to_one s.cells, receiver_at_renamed names, field_renamed names fr.receiver)
 
   -- it counts as what it counts as under the other names
-  elsewhere : (target : Target) (class : Option ℕ) → home_view (target_home p fr' ts' s' target class) ≡ home_view (target_home p fr ts s target class)
-  elsewhere target class = ap home_view (target_renamed target class) ∙ view_kept names (target_home p fr ts s target class)
+  elsewhere : (target : Target) (class : Option ℕ) → receiver_view (target_receiver p fr' ts' s' target class) ≡ receiver_view (target_receiver p fr ts s target class)
+  elsewhere target class = ap receiver_view (target_renamed target class) ∙ view_kept names (target_receiver p fr ts s target class)
 
   view_renamed : (target : Target) (class : Option ℕ) → target_view p fr' ts' s' target class ≡ target_view p fr ts s target class
   view_renamed This class = refl
@@ -193,15 +193,15 @@ module _ (names : ℕ → ℕ) (one_to_one : IsOneToOne names) (p : Image) (c : 
   -- ---- what an effect does
 
   place_renamed : (spot : Spot) → spot_place p fr' ts' s' spot ≡ renamed_place names (spot_place p fr ts s spot)
-  place_renamed x = grind (arith, nat_tests, tasks_counted names ts, field_renamed names fr.home)
+  place_renamed x = grind (arith, nat_tests, tasks_counted names ts, field_renamed names fr.receiver)
 
   cells_renamed : (u : Update) → cells_after p fr' ts' s' (renamed_update names u) ≡ renamed_cells names (cells_after p fr ts s u)
   cells_renamed (Carried from to) =
       rw (place_renamed from, place_renamed to, moved_renamed names one_to_one (spot_place p fr ts s from) (spot_place p fr ts s to) s.cells)
   cells_renamed (Made name class a) = rw (tasks_counted names ts)
-  cells_renamed (Written w v) = stored_renamed names one_to_one s.cells fr.home w v
-  cells_renamed (Requested r) = rerequested_renamed names one_to_one s.cells fr.home r
-  cells_renamed (Sessioned session) = resessioned_renamed names one_to_one s.cells fr.home session
+  cells_renamed (Written w v) = stored_renamed names one_to_one s.cells fr.receiver w v
+  cells_renamed (Requested r) = request_updated_renamed names one_to_one s.cells fr.receiver r
+  cells_renamed (Sessioned session) = session_updated_renamed names one_to_one s.cells fr.receiver session
   cells_renamed (Replied a code) = grind (
     arith,
     nat_tests,
@@ -216,8 +216,8 @@ module _ (names : ℕ → ℕ) (one_to_one : IsOneToOne names) (p : Image) (c : 
     nat_tests,
     tasks_counted names ts,
     token_kept names s.cells,
-    own_request_kept names one_to_one s.cells fr.home,
-    rerequested_renamed names one_to_one s.cells fr.home,
+    own_request_kept names one_to_one s.cells fr.receiver,
+    request_updated_renamed names one_to_one s.cells fr.receiver,
   )
   cells_renamed (Pushed a) = pushed_renamed names one_to_one p c fr ts s a
   cells_renamed (Popped a) = rw (tasks_counted names ts, moved_renamed names one_to_one (top_place s.items) (Register (length ts) a) s.cells)
@@ -233,7 +233,7 @@ module _ (names : ℕ → ℕ) (one_to_one : IsOneToOne names) (p : Image) (c : 
   applied_renamed (Sets_trap target m first) =
       grind (arith, nat_tests, given_renamed names one_to_one p c fr ts s (Trapped ∷ Run fr ∷ ts) m first, view_renamed target, target_renamed target)
   applied_renamed (Cancels m) =
-      grind (arith, nat_tests, own_request_kept names one_to_one s.cells fr.home, rerequested_renamed names one_to_one s.cells fr.home)
+      grind (arith, nat_tests, own_request_kept names one_to_one s.cells fr.receiver, request_updated_renamed names one_to_one s.cells fr.receiver)
   applied_renamed (Returns g a) = grind (arith, nat_tests, ended_renamed names one_to_one p c fr ts s, returned_renamed names one_to_one p c fr ts)
   applied_renamed (Leaves code u) = rw (cells_renamed u, items_kept u s.items, to_trap_renamed names ts)
   applied_renamed (Destroys o a words) = grind (arith, nat_tests, tasks_counted names ts, moved_renamed names one_to_one, begun_renamed names p o)
@@ -254,20 +254,20 @@ module _ (names : ℕ → ℕ) (one_to_one : IsOneToOne names) (p : Image) (c : 
 
   -- a jump by the request of what the method works on
   branch_renamed : (test : Option Request → Bool) (to : ℕ) →
-      jumps_if fr' (test (own_request s'.cells fr'.home)) to ≡ renamed_effect names (jumps_if fr (test (own_request s.cells fr.home)) to)
-  branch_renamed test to = grind (arith, nat_tests, own_request_kept names one_to_one s.cells fr.home, either_renamed)
+      jumps_if fr' (test (own_request s'.cells fr'.receiver)) to ≡ renamed_effect names (jumps_if fr (test (own_request s.cells fr.receiver)) to)
+  branch_renamed test to = grind (arith, nat_tests, own_request_kept names one_to_one s.cells fr.receiver, either_renamed)
 
   -- a request that is active is cancelled
-  cancel_renamed : cancels_if fr' (in_phase is_active (own_request s'.cells fr'.home)) (cancel_method p fr')
-      ≡ renamed_effect names (cancels_if fr (in_phase is_active (own_request s.cells fr.home)) (cancel_method p fr))
-  cancel_renamed = grind (arith, nat_tests, own_request_kept names one_to_one s.cells fr.home)
+  cancel_renamed : cancels_if fr' (in_phase is_active (own_request s'.cells fr'.receiver)) (cancel_method p fr')
+      ≡ renamed_effect names (cancels_if fr (in_phase is_active (own_request s.cells fr.receiver)) (cancel_method p fr))
+  cancel_renamed = grind (arith, nat_tests, own_request_kept names one_to_one s.cells fr.receiver)
 
   -- the last item is dealt with
   dealt_alike : deals fr' s.items (held s'.cells (top_place s.items)) ≡ renamed_effect names (deals fr s.items (held s.cells (top_place s.items)))
   dealt_alike = grind (arith, nat_tests, held_renamed names one_to_one s.cells)
 
   -- what a word of a field says, what a request or a token is made as, and what a delete does
-  loaded_kept : (w : ℕ) → loaded s'.cells fr'.home w ≡ loaded s.cells fr.home w
+  loaded_kept : (w : ℕ) → loaded s'.cells fr'.receiver w ≡ loaded s.cells fr.receiver w
   loaded_kept w = grind (arith, nat_tests, word_field_kept)
 
   made_renamed : (b : Bool) (x a : ℕ) → makes_unless b (names c.name) x a ≡ renamed_update names (makes_unless b c.name x a)
@@ -285,7 +285,7 @@ module _ (names : ℕ → ℕ) (one_to_one : IsOneToOne names) (p : Image) (c : 
   effect_renamed _ = first_of (
     simp (
       register_renamed names one_to_one s.cells ts,
-      held_field names one_to_one s.cells fr.home,
+      held_field names one_to_one s.cells fr.receiver,
       jumps_renamed,
       deletes_renamed,
       made_renamed,
@@ -294,13 +294,13 @@ module _ (names : ℕ → ℕ) (one_to_one : IsOneToOne names) (p : Image) (c : 
       messages_kept names s.cells,
       order_kept names s.cells,
       timer_kept names s.cells,
-      kind_kept names p fr.home,
-      own_session_kept names one_to_one s.cells fr.home,
-      own_request_kept names one_to_one s.cells fr.home,
+      kind_kept names p fr.receiver,
+      own_session_kept names one_to_one s.cells fr.receiver,
+      own_request_kept names one_to_one s.cells fr.receiver,
     ),
     cc,
     search (round_renamed, either_renamed, cancel_renamed, dealt_alike),
-    grind (arith, nat_tests, own_request_kept names one_to_one s.cells fr.home, either_renamed),
+    grind (arith, nat_tests, own_request_kept names one_to_one s.cells fr.receiver, either_renamed),
   )
 
   -- ---- what an instruction needs
@@ -311,8 +311,8 @@ module _ (names : ℕ → ℕ) (one_to_one : IsOneToOne names) (p : Image) (c : 
     simp (
       free_at names one_to_one s.cells ts,
       message_at names one_to_one s.cells ts,
-      kind_kept names p fr.home,
-      own_request_kept names one_to_one s.cells fr.home,
+      kind_kept names p fr.receiver,
+      own_request_kept names one_to_one s.cells fr.receiver,
       refusal_kept names one_to_one p c fr ts s s.cells,
       leave_kept names s.cells (Run fr ∷ ts),
       whole_kept names one_to_one s.cells s.items,

@@ -45,7 +45,7 @@ module _ (p : Image) (fr : Frame) (ts : List Task) (s : State) where
 
   module _ (name : ℕ) (unused : named s.cells name ≡ None) where
     update_unchanged : (u : Update) → LeavesAlone name u → Unchanged p s.cells (cells_after p fr ts s u)
-    update_unchanged x h = grind (arith, nat_tests, unchanged_moved p s.cells, unchanged_new p, unchanged_stored p s.cells fr.home, unchanged_itself p s.cells)
+    update_unchanged x h = grind (arith, nat_tests, unchanged_moved p s.cells, unchanged_new p, unchanged_stored p s.cells fr.receiver, unchanged_itself p s.cells)
 
     pub applied_unchanged : (e : Effect) → IsAside name e → Unchanged p s.cells (applied p fr ts s e).cells
     applied_unchanged x h = grind (arith, nat_tests, update_unchanged, passed_unchanged, unchanged_moved p s.cells, unchanged_itself p s.cells)

@@ -5,27 +5,27 @@ use Rattle.std.proofs.Common.{Some, None, ap, refl, sym, ◌∙◌, arith, appen
 use Rattle.std.proofs.Math.Facts.{sfits_lit}
 use Rattle.std.proofs.lemmas.Bool.{ne_eqb}
 use Rattle.aom_image.specs.Image.{Image}
-use Rattle.aom_classes.specs.Linked.{IsLinked}
-use Rattle.aom_rules.specs.Typing.{Typing, IsTyped}
+use Rattle.aom_link_conditions.specs.Linked.{IsLinked}
+use Rattle.aom_typing_rules.specs.Typing.{Typing, IsTyped}
 use Rattle.aom_determinism.proofs.SafetyLemmas.{answers, boot_keeps, clients_keep, commanded_kept, goes_same, nothing, polled_rest, polled_so, step_keeps}
 use Rattle.aom_determinism.proofs.SafetyLemmas.{turn_goes_on, well_on}
-use Rattle.aom_safety.specs.Kept.{IsKept}
+use Rattle.aom_safety.specs.Kept.{StateInvariant}
 use Rattle.aom_safety.specs.Laws.{IsWired}
 use Rattle.aom_semantics.specs.Places.{Cell, named}
 use Rattle.aom_semantics.specs.State.{Task, State, Choice, Goes}
 use Rattle.aom_semantics.specs.Moves.{step, written, is_refused, IsOpen}
 use Rattle.aom_safety.specs.WellTyped.{WellTyped}
-use Rattle.aom_semantics.specs.World.{AnswersWell, boot_state, Completion, Heard, HearsWell, Environment, Reaches, Timed, Turning, by_event}
+use Rattle.aom_semantics.specs.World.{AnswersWell, boot_state, Completion, Observed, ObservesWell, Environment, Reaches, Timed, Turning, by_event}
 use Rattle.aom_semantics.specs.World.{by_timer, moves, polled, turn, turned, turning, turns, IsBusy, written_turn, IsBetween}
 use Rattle.aom_transcript.specs.declared.event.TimedEvent.{TimedEvent}
 use Rattle.aom_transcript.specs.declared.line.Line.{Line}
 use Rattle.aom_transcript.specs.declared.line.Ending.{Ending}
 use Rattle.aom_transcript.specs.declared.line.Ending.TheVariants.{Limit, Waiting}
-use Rattle.aom_progress.specs.Ranks.{rank}
-use Rattle.aom_determinism.proofs.ProgressLemmas.{leads_on, moves_lower_ranks}
-use Rattle.aom_determinism.proofs.Sorts.{Kind, completes_one, cuts, hears_one, kills_one, kind_of, obeys_one, passes_on, picks_one, polls_one, strays, waits}
-use Rattle.aom_determinism.proofs.Lefts.{bereaved_no_more, commanded_no_more, completed_fewer, completed_no_more, event_there, events_left}
-use Rattle.aom_determinism.proofs.Lefts.{fewer_left, later_left, left, natives_left, no_more_left, passed_late, timers_in}
+use Rattle.aom_termination.specs.Ranks.{rank}
+use Rattle.aom_determinism.proofs.TerminationLemmas.{leads_on, moves_lower_ranks}
+use Rattle.aom_determinism.proofs.Sorts.{Kind, completes_one, cuts, observes_one, kills_one, kind_of, executes_one, passes_on, picks_one, polls_one, strays, waits}
+use Rattle.aom_determinism.proofs.Remainders.{detached_no_more, commanded_no_more, completed_fewer, completed_no_more, event_there, events_left}
+use Rattle.aom_determinism.proofs.Remainders.{fewer_left, later_left, left, natives_left, no_more_left, passed_late, timers_in}
 use Rattle.aom_determinism.proofs.Spending.{moved_spares, picked_spares}
 use Rattle.aom_determinism.specs.Endings.{CanEnd, RunsCanEnd, spare}
 
@@ -40,7 +40,7 @@ above [] n h = refl
 above (c ∷ cs) n h = grind (arith, nat_tests, ne_eqb c.object.name n, above cs n)
 
 -- nothing is heard, with a free name
-abbrev quiet : State → Heard
+abbrev quiet : State → Observed
 quiet s = record { completion = None; name = top s.cells }
 
 -- a native that is polled may complete nothing
@@ -54,8 +54,8 @@ module _ (p : Image) (outside : Environment) (s : State) where
   completes_nothing : AnswersWell p s (turning outside (quiet s) s)
   completes_nothing = grind (arith, nat_tests, top s.cells, timer_well, event_well (top s.cells))
 
-  hears_nothing : HearsWell p outside (quiet s) s
-  hears_nothing = record { completion = completes_nothing; name = above s.cells (top s.cells) (omega arith) }
+  observes_nothing : ObservesWell p outside (quiet s) s
+  observes_nothing = record { completion = completes_nothing; name = above s.cells (top s.cells) (omega arith) }
 
 -- a poll starts no timer, and nothing comes to be at hand
 polled_no_more : (p : Image) (s u : State) (n : ℕ) (answer : Option Completion) → polled p n answer s ≡ Goes u → timers_in u.cells ≤ timers_in s.cells
@@ -81,7 +81,7 @@ module _ (p : Image) (t : Typing) (outside : Environment) (few : outside.limit �
   Ends n = (lines : List Line) (s : State) → spare outside.limit s < n → Reached lines s → WellTyped p t s → CanEnd p outside lines
 
   -- what clients are at is kept
-  kept : (lines : List Line) (s : State) → Reached lines s → IsKept p s
+  kept : (lines : List Line) (s : State) → Reached lines s → StateInvariant p s
   kept lines s r = (well_on p t outside wired is_typed (boot_state p) (boot_keeps p t wired is_typed, clients_keep.boot p) lines s r).1
 
   -- the run is over: no more lines
@@ -124,11 +124,11 @@ module _ (p : Image) (t : Typing) (outside : Environment) (few : outside.limit �
   by_kind n k j ends again polling lines s most few_natives spares w between _ strays u goes r typed = cc
   by_kind n k j ends again polling lines s most few_natives spares w between _ (completes_one x first) u goes r typed =
       let same = sym (goes_same _ u goes) in
-      let timers = completed_fewer (pos 0) s.cells w.good.tidy x first in
+      let timers = completed_fewer (pos 0) s.cells w.good.no_duplicates x first in
       let falls = fewer_left outside s u (omega (arith, timers, ap (λ (v : State). timers_in v.cells) same, ap (λ (v : State). events_left outside v) same)) in
       less_left n k again lines s u most falls spares (ap (λ (v : State). v.tasks) same) (ap (λ (v : State). v.rest.dispatches) same)
       (ap (λ (v : State). v.rest.ended) same) between r typed
-  by_kind n k j ends again polling lines s most few_natives spares w between _ (hears_one e next) u goes r typed = grind (
+  by_kind n k j ends again polling lines s most few_natives spares w between _ (observes_one e next) u goes r typed = grind (
     arith,
     nat_tests,
     goes_same,
@@ -142,12 +142,12 @@ module _ (p : Image) (t : Typing) (outside : Environment) (few : outside.limit �
     nat_tests,
     goes_same,
     event_there outside.events s.rest.delivered e next,
-    bereaved_no_more p native s.cells,
+    detached_no_more p native s.cells,
     fewer_left outside s u,
     timers_in,
     less_left n k again lines s u most,
   )
-  by_kind n k j ends again polling lines s most few_natives spares w between _ (obeys_one e c command name next) u goes r typed = grind (
+  by_kind n k j ends again polling lines s most few_natives spares w between _ (executes_one e c command name next) u goes r typed = grind (
     arith,
     nat_tests,
     goes_same,
@@ -161,7 +161,7 @@ module _ (p : Image) (t : Typing) (outside : Environment) (few : outside.limit �
   by_kind n k j ends again polling lines s most few_natives spares w between _ (passes_on time next early) u goes r typed =
       grind (arith, nat_tests, goes_same, passed_late outside s u time next, later_left outside s u, timers_in, less_left n k again lines s u most)
   by_kind n k j ends again polling lines s most few_natives spares w between _ (picks_one x below) u goes r typed =
-      grind (arith, nat_tests, picked_spares p outside.limit s u x.seat below between.idle goes)
+      grind (arith, nat_tests, picked_spares p outside.limit s u x.owned_object below between.idle goes)
   by_kind n k j ends again polling lines s most few_natives spares w between _ (polls_one native answer from to early) u goes r typed = grind (
     arith,
     nat_tests,
@@ -176,12 +176,12 @@ module _ (p : Image) (t : Typing) (outside : Environment) (few : outside.limit �
 
   by_turns : (n k j : ℕ) → Ends n → Between n k j
   by_turns n (suc k) (suc j) ends lines s less few_natives spares r w between =
-      let owed = hears_nothing p outside s in
-      let heard = quiet s in
-      let next = leads_on p t (turn p outside heard s) (turn_goes_on p t outside wired is_typed heard s w between owed (kept lines s r).fit) in
+      let owed = observes_nothing p outside s in
+      let observed = quiet s in
+      let next = leads_on p t (turn p outside observed s) (turn_goes_on p t outside wired is_typed observed s w between owed (kept lines s r).fit) in
       further lines (written_turn p outside s) (by_kind n k j ends (λ i. by_turns n k i ends)
       (by_turns n (suc k) j ends) (lines ++ written_turn p outside s) s (omega (arith, less)) (omega (arith, few_natives)) spares w between
-      (turning outside heard s) (kind_of outside s heard) next.0 next.1 (turns heard r between owed next.1) next.2)
+      (turning outside observed s) (kind_of outside s observed) next.0 next.1 (turns observed r between owed next.1) next.2)
   by_turns n x j ends lines s less few_natives spares r w between = grind arith
 
   -- ---- moves

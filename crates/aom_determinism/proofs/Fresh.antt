@@ -11,22 +11,22 @@ use Rattle.aom_clients.specs.declared.client.Client.{Client}
 use Rattle.aom_clients.specs.declared.client.Client.TheVariants.{Closing as Closing_client, Connecting, Dying as Dying_client}
 use Rattle.aom_clients.specs.declared.client.Client.TheVariants.{Open}
 use Rattle.aom_image.specs.Image.{Image}
-use Rattle.aom_rules.specs.Typing.{Typing}
-use Rattle.aom_shape.specs.Kinds.{filled}
-use Rattle.aom_shape.specs.declared.kind.Filling.TheVariants.{Full}
-use Rattle.aom_shape.specs.declared.kind.Kind.TheVariants.{Null}
+use Rattle.aom_typing_rules.specs.Typing.{Typing}
+use Rattle.aom_abstract_state.specs.Kinds.{filled}
+use Rattle.aom_abstract_state.specs.declared.kind.FieldState.TheVariants.{Full}
+use Rattle.aom_abstract_state.specs.declared.kind.Kind.TheVariants.{Null}
 use Rattle.aom_determinism.proofs.SafetyLemmas.{IsAt, claim_unnamed, fits_unowning, queued_claim, queued_well, server_lives, service_unnamed}
 use Rattle.aom_determinism.proofs.SemanticsLemmas.{cond_same, held_named, same_place_refl}
 use Rattle.aom_safety.specs.Claims.{Dispatching, Dying, Ending, Layer, Mark, Method, Unwinding, by_close, declared, tasks_of, claim}
 use Rattle.aom_semantics.specs.Clients.{client_at}
 use Rattle.aom_safety.specs.Kept.{ClientsFit, is_message_of}
 use Rattle.aom_semantics.specs.Places.{Asked, Cell, Close_of, Connect_of, Elsewhere, Message_of, Place}
-use Rattle.aom_semantics.specs.Places.{Tidy, held, named, service_of, unserved, Other, Root, Session, In_service, Queued}
+use Rattle.aom_semantics.specs.Places.{NoDuplicates, held, named, service_of, unserved, Other, Root, Session, In_service, Queued}
 use Rattle.aom_semantics.specs.Servers.{has_session, session_thing}
-use Rattle.aom_semantics.specs.State.{Dispatch, Dispatched, Home}
-use Rattle.aom_semantics.specs.State.{Of_server, Parts, Seat, Stage, State, Task}
-use Rattle.aom_safety.specs.WellTyped.{AllSit, Back, Caught, Gone, Good, IsHoused, Leaves, Now, Returns, SitsFirst, Stack, WellTyped, seat_of}
-use Rattle.aom_determinism.specs.Names.{IsOneToOne, renamed, renamed_asked, renamed_cells, renamed_client, renamed_clients, renamed_dispatch, renamed_home}
+use Rattle.aom_semantics.specs.State.{Dispatch, Dispatched, Receiver}
+use Rattle.aom_semantics.specs.State.{Of_server, Disconnects, OwnedObject, Stage, State, Task}
+use Rattle.aom_safety.specs.WellTyped.{IsOwnedChain, Back, Caught, Gone, Good, ReceiverIsHeld, Leaves, Now, Returns, OwnedFirst, Stack, WellTyped, owned_object_of}
+use Rattle.aom_determinism.specs.Names.{IsOneToOne, renamed, renamed_asked, renamed_cells, renamed_client, renamed_clients, renamed_dispatch, renamed_receiver}
 use Rattle.aom_determinism.specs.Names.{renamed_place, renamed_queue, renamed_task, renamed_tasks, renamed_other}
 use Rattle.aom_determinism.specs.There.{AllThere, IsAtPlace, accepts, dispatch_of}
 
@@ -132,13 +132,13 @@ module _ (names : ℕ → ℕ) where
           absurd (true≢false (sym h ∙ ap (λ v. list_any (is_message_of d m) v.queue) none))
       go false e = sent_so n d m (ap (λ b. list_any (is_message_of d m) (cond b c.service (service_of cs n)).queue) e ∙ h)
 
-  cells_spared : (cs : List Cell) → Tidy cs → Spares cs → SparesPlaces cs → SparesSent cs → renamed_cells names cs ≡ cs
-  cells_spared [] tidy named_so held_so sent_so = refl
-  cells_spared (c ∷ cs) tidy named_so held_so sent_so = rw (
+  cells_spared : (cs : List Cell) → NoDuplicates cs → Spares cs → SparesPlaces cs → SparesSent cs → renamed_cells names cs ≡ cs
+  cells_spared [] no_duplicates named_so held_so sent_so = refl
+  cells_spared (c ∷ cs) no_duplicates named_so held_so sent_so = rw (
     named_so c.object.name (grind (arith, nat_tests, eq-eqb)),
     held_so c.owner (grind (arith, nat_tests, same_place_refl)),
     queue_spared c.service.queue (sent_first c cs sent_so),
-    cells_spared cs tidy.2 (λ n some. named_so n (grind arith)) (λ q some. held_so q (grind arith)) (sent_on c cs tidy.1 sent_so),
+    cells_spared cs no_duplicates.2 (λ n some. named_so n (grind arith)) (λ q some. held_so q (grind arith)) (sent_on c cs no_duplicates.1 sent_so),
   )
 
   -- clients by what each is at
@@ -147,22 +147,22 @@ module _ (names : ℕ → ℕ) where
   clients_spared (x ∷ xs) so = rw (so zero, clients_spared xs (λ c. so (suc c)))
 
   module _ (p : Image) (t : Typing) (cs : List Cell) (named_so : Spares cs) (held_so : SparesPlaces cs) where
-    home_spared : (ls : List Layer) (h : Home) → IsHoused p cs ls h → renamed_home names h ≡ h
-    home_spared ls x housed = grind arith
+    receiver_spared : (ls : List Layer) (h : Receiver) → ReceiverIsHeld p cs ls h → renamed_receiver names h ≡ h
+    receiver_spared ls x receiver_held = grind arith
 
     -- the session that serves
-    dispatch_spared : (d : Dispatch) (seats : List Seat) → AllSit cs seats → SitsFirst cs (seat_of d) seats → IsAtPlace cs (Some d) → renamed_dispatch names d ≡ d
-    dispatch_spared x seats sit h at = grind (arith, nat_tests, held_named)
+    dispatch_spared : (d : Dispatch) (owned_chain : List OwnedObject) → IsOwnedChain cs owned_chain → OwnedFirst cs (owned_object_of d) owned_chain → IsAtPlace cs (Some d) → renamed_dispatch names d ≡ d
+    dispatch_spared x owned_chain sit h at = grind (arith, nat_tests, held_named)
 
     tasks_spared : (ls : List Layer) (back : Back) → Stack p t cs back ls → IsAtPlace cs (dispatch_of (tasks_of ls)) →
         renamed_tasks names (tasks_of ls) ≡ tasks_of ls
     tasks_spared [] back k at = refl
-    tasks_spared (Method fr sh ∷ ls) back k at = rw (home_spared ls fr.home k.2, tasks_spared ls (Returns fr.method fr.home) k.4 at)
+    tasks_spared (Method fr sh ∷ ls) back k at = rw (receiver_spared ls fr.receiver k.2, tasks_spared ls (Returns fr.method fr.receiver) k.4 at)
     tasks_spared (Mark gv ∷ ls) back k at = rw (tasks_spared ls (Caught gv) k.1 at)
     tasks_spared (Dying o ∷ ls) back k at = rw (tasks_spared ls Gone k.2 at)
     tasks_spared (Ending o left ∷ ls) back k at = rw (tasks_spared ls Now k.3 at)
     tasks_spared (Unwinding code es ∷ ls) back k at = rw (tasks_spared ls Leaves k.1 at)
-    tasks_spared (Dispatching d seats ∷ ls) back k at = rw (dispatch_spared d seats k.2 k.3 at, k.1)
+    tasks_spared (Dispatching d owned_chain ∷ ls) back k at = rw (dispatch_spared d owned_chain k.2 k.3 at, k.1)
 
 -- the dispatch that stands below all is at hand
 pub dispatch_at : (ts : List Task) (d : Dispatch) → dispatch_of ts ≡ Some d → IsAt d ts
@@ -172,11 +172,11 @@ dispatch_at (_ ∷ ts) d e = dispatch_at ts d e
 
 -- what accepts a client is the server of that name, with that client
 pub record IsAccepting (n c : ℕ) (d : Option Dispatch) : Type 0 where
-  pub seat : Seat
+  pub owned_object : OwnedObject
   pub client : ℕ
   pub stage : Stage
-  pub is : d ≡ Some (Of_server seat client stage)
-  pub name : seat.object.name ≡ n
+  pub is : d ≡ Some (Of_server owned_object client stage)
+  pub name : owned_object.object.name ≡ n
 
 pub accepting : (n c : ℕ) (d : Option Dispatch) → accepts n c d ≡ true → IsAccepting n c d
 accepting n c d h = grind (arith, nat_tests)
@@ -188,16 +188,16 @@ session_declared p cs n c e = ap (λ v. cond (has_session v c) (filled (session_
 session_null : (p : Image) (t : Typing) (cs : List Cell) (ls : List Layer) (back : Back) (n c : ℕ) → Stack p t cs back ls → named cs n ≡ None →
     claim p (declared p cs) ls (Elsewhere (Session n c)) ≡ Null
 session_null p t cs [] back n c k e = session_declared p cs n c e
-session_null p t cs (Method fr sh ∷ ls) back n c k e = session_null p t cs ls (Returns fr.method fr.home) n c k.4 e
+session_null p t cs (Method fr sh ∷ ls) back n c k e = session_null p t cs ls (Returns fr.method fr.receiver) n c k.4 e
 session_null p t cs (Mark gv ∷ ls) back n c k e = session_null p t cs ls (Caught gv) n c k.1 e
 session_null p t cs (Dying o ∷ ls) back n c k e = ap (cond (o.name == n) Null) (session_null p t cs ls Gone n c k.2 e) ∙ cond_same (o.name == n) Null
 session_null p t cs (Ending o left ∷ ls) back n c k e = grind (arith, nat_tests, ne_eqb o.name n, session_null p t cs ls Now n c k.3 e)
 session_null p t cs (Unwinding code es ∷ ls) back n c k e = session_null p t cs ls Leaves n c k.1 e
-session_null p t cs (Dispatching d seats ∷ ls) back n c k e = by_dispatch d (grind (arith, nat_tests, session_declared))
+session_null p t cs (Dispatching d owned_chain ∷ ls) back n c k e = by_dispatch d (grind (arith, nat_tests, session_declared))
   where
     by_dispatch : (d : Dispatch) → claim p (declared p cs) ls (Elsewhere (Session n c)) ≡ Null →
         by_close d n c (claim p (declared p cs) ls (Elsewhere (Session n c))) ≡ Null
-    by_dispatch (Of_server x client Parts) null = ap (cond ((x.object.name == n) && (client == c)) Null) null
+    by_dispatch (Of_server x client Disconnects) null = ap (cond ((x.object.name == n) && (client == c)) Null) null
         ∙ cond_same ((x.object.name == n) && (client == c)) Null
     by_dispatch _ null = null
 
@@ -237,9 +237,9 @@ module _ (p : Image) (t : Typing) (s : State) (names : ℕ → ℕ) (well : Well
   accepted_so : (n c : ℕ) (ts : List Task) → s.tasks ≡ ts → accepts n c (dispatch_of ts) ≡ true → names n ≡ n
   accepted_so n c ts tasks h =
       let a = accepting n c (dispatch_of ts) h in
-      let l = server_lives p t s.cells well.layers Now a.seat a.client a.stage well.good.stack
-      (subst (λ l. IsAt (Of_server a.seat a.client a.stage) l) (sym tasks ∙ well.tasks) (dispatch_at ts (Of_server a.seat a.client a.stage) a.is)) in
-      subst (λ k. names k ≡ k) a.name (named_so a.seat.object.name (λ none. let clash : Some a.seat.object ≡ None = sym l.0 ∙ none in cc))
+      let l = server_lives p t s.cells well.layers Now a.owned_object a.client a.stage well.good.stack
+      (subst (λ l. IsAt (Of_server a.owned_object a.client a.stage) l) (sym tasks ∙ well.tasks) (dispatch_at ts (Of_server a.owned_object a.client a.stage) a.is)) in
+      subst (λ k. names k ≡ k) a.name (named_so a.owned_object.object.name (λ none. let clash : Some a.owned_object.object ≡ None = sym l.0 ∙ none in cc))
 
   connect_so : (n c : ℕ) → is_connecting_at n (client_at s.clients c) ≡ true → names n ≡ n
   connect_so n c e = grind (arith, nat_tests, served_so n, accepted_so n c s.tasks)
@@ -256,7 +256,7 @@ module _ (p : Image) (t : Typing) (s : State) (names : ℕ → ℕ) (well : Well
       ∙ tasks_spared names p t s.cells named_so held_so well.layers Now well.good.stack (grind (arith, nat_tests)) ∙ sym well.tasks
 
   pub spared : renamed names s ≡ s
-  spared = rw (cells_spared names s.cells well.good.tidy named_so held_so sent_so, spared_tasks, clients_spared names s.clients (λ c. client_so c (client_at s.clients c) refl))
+  spared = rw (cells_spared names s.cells well.good.no_duplicates named_so held_so sent_so, spared_tasks, clients_spared names s.clients (λ c. client_so c (client_at s.clients c) refl))
 
 -- two names that are free change places, and nothing changes
 pub swapped_free : (p : Image) (t : Typing) (s : State) (a b : ℕ) →

@@ -7,12 +7,12 @@ mod Needs
 mod Doing
 mod Turning
 mod Steps
-mod Hearing
+mod Observing
 mod Polling
 mod Oracles
 mod Fresh
 mod Keeping
-mod Vanishing
+mod Reclaiming
 mod Moving
 mod Remaining
 mod Asking
@@ -29,12 +29,12 @@ mod Found
 mod Turns
 mod Runs
 mod Spending
-mod Lefts
+mod Remainders
 mod Sorts
 mod Ending
 pub mod DeterminismLemmas
-pub use Rattle.aom_active.proofs.ActiveLemmas
-pub use Rattle.aom_classes.proofs.ClassesLemmas
-pub use Rattle.aom_progress.proofs.ProgressLemmas
+pub use Rattle.aom_active_objects.proofs.ActiveObjectsLemmas
+pub use Rattle.aom_link_conditions.proofs.LinkConditionsLemmas
+pub use Rattle.aom_termination.proofs.TerminationLemmas
 pub use Rattle.aom_safety.proofs.SafetyLemmas
 pub use Rattle.aom_semantics.proofs.SemanticsLemmas

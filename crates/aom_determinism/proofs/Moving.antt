@@ -9,7 +9,7 @@ use Rattle.aom_image.specs.Views.{arguments_of}
 use Rattle.aom_image.specs.declared.method.Gives.{Gives}
 use Rattle.aom_clients.specs.Nodes.{is_connecting_at}
 use Rattle.aom_clients.specs.declared.client.Client.{Client}
-use Rattle.aom_determinism.proofs.SafetyLemmas.{Fine, client_here, client_there, goes_same, on_none, rerequested_alike, service_moved, steady_asked}
+use Rattle.aom_determinism.proofs.SafetyLemmas.{Fine, client_here, client_there, goes_same, on_none, request_updated_alike, service_moved, steady_asked}
 use Rattle.aom_semantics.specs.Calls.{accepted_cells, accepted_clients, answered_by, ended_well, returned}
 use Rattle.aom_semantics.specs.Cleanup.{destroyed, to_trap, top_is_whole, unwound}
 use Rattle.aom_semantics.specs.Clients.{at_opening, client_at, with_client}
@@ -21,7 +21,7 @@ use Rattle.aom_semantics.specs.Servers.{opened}
 use Rattle.aom_semantics.specs.State.{A_mark, Accepts, An_object, An_operation, Destroy, Dispatch, Dispatched, Frame, Goes}
 use Rattle.aom_semantics.specs.State.{IsStuck, Item, NullOrDead, Of_server, Run, Serves, State, Task, Trapped, Unwind, resumed}
 use Rattle.aom_semantics.specs.Words.{here}
-use Rattle.aom_determinism.proofs.Keeping.{Calm, calm_itself, calm_moved, calm_passed, calm_reserved, calm_result, calm_steady, calm_update, there_by}
+use Rattle.aom_determinism.proofs.Keeping.{UnchangedCalls, unchanged_calls_itself, unchanged_calls_moved, unchanged_calls_passed, unchanged_calls_reserved, unchanged_calls_result, unchanged_calls_steady, unchanged_calls_update, there_by}
 use Rattle.aom_determinism.specs.There.{AllThere, AreThere, dispatch_of, waits}
 
 -- ---- the dispatch below
@@ -42,21 +42,21 @@ dispatch_to_trap _ = refl
 -- ---- the effects of instructions
 
 module _ (p : Image) (fr : Frame) (ts : List Task) (s : State) (there : AreThere s.clients s.cells (dispatch_of ts)) where
-  by : (u : State) → u.clients ≡ s.clients → Calm s.cells u.cells → dispatch_of u.tasks ≡ dispatch_of ts → AllThere u
-  by u same calm below = there_by s.clients s.cells (dispatch_of ts) u.clients u.cells (dispatch_of u.tasks) same calm below there
+  by : (u : State) → u.clients ≡ s.clients → UnchangedCalls s.cells u.cells → dispatch_of u.tasks ≡ dispatch_of ts → AllThere u
+  by u same unchanged_calls below = there_by s.clients s.cells (dispatch_of ts) u.clients u.cells (dispatch_of u.tasks) same unchanged_calls below there
 
   pub effect_there : (e : Effect) → Fine fr s e → AllThere (applied p fr ts s e)
-  effect_there (Goes_on ch) f = by (applied p fr ts s (Goes_on ch)) refl (calm_update p fr ts s ch.update f) refl
-  effect_there (Calls target m first) f = by (applied p fr ts s (Calls target m first)) refl (calm_passed p fr ts s _ (arguments_of p m) first 0 s.cells) refl
+  effect_there (Goes_on ch) f = by (applied p fr ts s (Goes_on ch)) refl (unchanged_calls_update p fr ts s ch.update f) refl
+  effect_there (Calls target m first) f = by (applied p fr ts s (Calls target m first)) refl (unchanged_calls_passed p fr ts s _ (arguments_of p m) first 0 s.cells) refl
   effect_there (Sets_trap target m first) f =
-      by (applied p fr ts s (Sets_trap target m first)) refl (calm_passed p fr ts s _ (arguments_of p m) first 0 s.cells) refl
-  effect_there (Cancels m) f = grind (arith, nat_tests, by, calm_steady s.cells, steady_asked s.cells fr.home, on_none, rerequested_alike s.cells fr.home)
+      by (applied p fr ts s (Sets_trap target m first)) refl (unchanged_calls_passed p fr ts s _ (arguments_of p m) first 0 s.cells) refl
+  effect_there (Cancels m) f = grind (arith, nat_tests, by, unchanged_calls_steady s.cells, steady_asked s.cells fr.receiver, on_none, request_updated_alike s.cells fr.receiver)
   effect_there (Returns g a) f = absurd f
-  effect_there (Leaves code u) f = by (applied p fr ts s (Leaves code u)) refl (calm_update p fr ts s u f) (dispatch_to_trap ts)
+  effect_there (Leaves code u) f = by (applied p fr ts s (Leaves code u)) refl (unchanged_calls_update p fr ts s u f) (dispatch_to_trap ts)
   effect_there (Destroys x a words) f =
-      by (applied p fr ts s (Destroys x a words)) refl (grind (arith, nat_tests, calm_moved)) (dispatch_begun p x _ (Run _ ∷ ts))
-  effect_there (Destroys_last x) f = by (applied p fr ts s (Destroys_last x)) refl (grind (arith, nat_tests, calm_moved)) (dispatch_begun p x _ (Run _ ∷ ts))
-  effect_there r f = by (applied p fr ts s r) refl (calm_itself s.cells) refl
+      by (applied p fr ts s (Destroys x a words)) refl (grind (arith, nat_tests, unchanged_calls_moved)) (dispatch_begun p x _ (Run _ ∷ ts))
+  effect_there (Destroys_last x) f = by (applied p fr ts s (Destroys_last x)) refl (grind (arith, nat_tests, unchanged_calls_moved)) (dispatch_begun p x _ (Run _ ∷ ts))
+  effect_there r f = by (applied p fr ts s r) refl (unchanged_calls_itself s.cells) refl
 
 -- ---- a method returns
 
@@ -89,7 +89,7 @@ module _ (p : Image) (fr : Frame) (ts : List Task) (s : State) where
           go false other =
               let before = there.asked n d (ap (is_connecting_at n) (sym (client_there c d (at_opening 0 (client_at s.clients c)) s.clients other)) ∙ e) in
               let waited = or_true (waits s.cells n d) (or_none (waits s.cells n d) (x.object.name == n) (c == d) other before) in
-              let then_waits = (calm_reserved (opened c) (λ v k h. h) cells x.object.name).connects n d
+              let then_waits = (unchanged_calls_reserved (opened c) (λ v k h. h) cells x.object.name).connects n d
               (ap (λ v. list_any (is_connect_of d) v.queue) (service_moved s.cells from (Elsewhere (Session x.object.name c)) n) ∙ waited) in
               ap (λ b. b || false) then_waits
             where
@@ -104,9 +104,9 @@ module _ (p : Image) (fr : Frame) (ts : List Task) (s : State) where
   pub returned_there : (g : Gives) (a : ℕ) (below : List Task) → s.tasks ≡ Run fr ∷ ts →
       AreThere s.clients s.cells (dispatch_of below) → AreThere s.clients s.cells (dispatch_of ts) → AllThere (returned p fr ts s g a below)
   returned_there g a (Run caller ∷ below) tasks there all =
-      there_by s.clients s.cells (dispatch_of below) s.clients _ _ refl (calm_result p fr ts s g a _ below) refl there
+      there_by s.clients s.cells (dispatch_of below) s.clients _ _ refl (unchanged_calls_result p fr ts s g a _ below) refl there
   returned_there g a (Trapped ∷ Run caller ∷ below) tasks there all =
-      there_by s.clients s.cells (dispatch_of below) s.clients _ _ refl (calm_result p fr ts s g a _ below) refl there
+      there_by s.clients s.cells (dispatch_of below) s.clients _ _ refl (unchanged_calls_result p fr ts s g a _ below) refl there
   returned_there g a (Trapped ∷ Dispatched d ∷ below) tasks there all = accepted_there d (here fr ts s a) there
   returned_there g a (Destroy ∷ below) tasks there all = grind (arith, nat_tests)
   returned_there g a (Unwind code ∷ below) tasks there all = there
@@ -128,6 +128,6 @@ module _ (p : Image) (s : State) where
       by_object : (o : Option Object) → AllThere (destroyed p o items (Unwind code ∷ ts) s)
       by_object None = there
       by_object (Some o) = there_by s.clients s.cells (dispatch_of ts) s.clients _ _ refl
-          (calm_moved s.cells (Entry (length items)) (Going _) (λ n c. refl) (λ n c. refl)) (dispatch_begun p o (length items) (Unwind code ∷ ts)) there
+          (unchanged_calls_moved s.cells (Entry (length items)) (Going _) (λ n c. refl) (λ n c. refl)) (dispatch_begun p o (length items) (Unwind code ∷ ts)) there
   unwound_there code ts (An_operation m w ∷ items) u there e = subst AllThere (goes_same _ u e) there
   unwound_there code ts (A_mark ∷ items) u there e = grind arith

@@ -3,30 +3,30 @@ use Rattle.std.proofs.lemmas.Bool.Decides.{nat_tests}
 use Rattle.std.proofs.Common.{arith, Option, ℕ, ◌≡◌}
 use Rattle.aom_image.specs.Image.{Image}
 use Rattle.aom_semantics.specs.State.{State}
-use Rattle.aom_semantics.specs.World.{Heard, Obeys, Environment, Turning, by_event, turning, written_by}
+use Rattle.aom_semantics.specs.World.{Observed, Executes, Environment, Turning, by_event, turning, written_by}
 use Rattle.aom_transcript.specs.declared.event.TimedEvent.{TimedEvent}
 use Rattle.aom_determinism.proofs.NamedCells.{cond_applied}
-use Rattle.aom_determinism.specs.Hearing.{is_polling}
+use Rattle.aom_determinism.specs.Observing.{is_polling}
 
 -- the turn, whatever its name
 abbrev unnamed : Turning → Turning
-unnamed (Obeys client command name) = Obeys client command 0
+unnamed (Executes client command name) = Executes client command 0
 unnamed t = t
 
 module _ (outside : Environment) (a b : ℕ) (s : State) where
   unnamed_event : (e : Option TimedEvent) (after : Turning) → unnamed (by_event outside a s e after) ≡ unnamed (by_event outside b s e after)
   unnamed_event x after = grind (arith, nat_tests, cond_applied)
 
-unnamed_turning : (outside : Environment) (heard : Heard) (a : ℕ) (s : State) →
-    unnamed (turning outside (record heard { name = a }) s) ≡ unnamed (turning outside heard s)
-unnamed_turning outside heard a s = grind (arith, nat_tests, cond_applied, unnamed_event outside a heard.name s)
+unnamed_turning : (outside : Environment) (observed : Observed) (a : ℕ) (s : State) →
+    unnamed (turning outside (record observed { name = a }) s) ≡ unnamed (turning outside observed s)
+unnamed_turning outside observed a s = grind (arith, nat_tests, cond_applied, unnamed_event outside a observed.name s)
 
 -- ---- what does not look at it
 
-pub polling_named : (outside : Environment) (heard : Heard) (a : ℕ) (s : State) →
-    is_polling (turning outside (record heard { name = a }) s) ≡ is_polling (turning outside heard s)
-polling_named outside heard a s = grind (arith, nat_tests, unnamed_turning outside heard a s)
+pub polling_named : (outside : Environment) (observed : Observed) (a : ℕ) (s : State) →
+    is_polling (turning outside (record observed { name = a }) s) ≡ is_polling (turning outside observed s)
+polling_named outside observed a s = grind (arith, nat_tests, unnamed_turning outside observed a s)
 
-pub written_named : (p : Image) (outside : Environment) (heard : Heard) (a : ℕ) (s : State) →
-    written_by p s (turning outside (record heard { name = a }) s) ≡ written_by p s (turning outside heard s)
-written_named p outside heard a s = grind (arith, nat_tests, unnamed_turning outside heard a s)
+pub written_named : (p : Image) (outside : Environment) (observed : Observed) (a : ℕ) (s : State) →
+    written_by p s (turning outside (record observed { name = a }) s) ≡ written_by p s (turning outside observed s)
+written_named p outside observed a s = grind (arith, nat_tests, unnamed_turning outside observed a s)

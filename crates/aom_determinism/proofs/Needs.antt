@@ -15,15 +15,15 @@ use Rattle.aom_semantics.specs.Calls.{none_filled, end_needs, is_asked, given_ce
 use Rattle.aom_semantics.specs.Calls.{needs_call, needs_each, needs_ended, needs_entering, needs_reply, needs_result}
 use Rattle.aom_semantics.specs.Calls.{needs_return, needs_target, needs_target_object, needs_trap, passed_cells, result_needs}
 use Rattle.aom_semantics.specs.Cleanup.{above_trap_is_free, has_trap, if_refused, leave_needs, needs_push, pushed_cells, top_is_whole}
-use Rattle.aom_semantics.specs.Requests.{home_kind, own_request}
+use Rattle.aom_semantics.specs.Requests.{receiver_kind, own_request}
 use Rattle.aom_semantics.specs.Objects.{is_no_message, is_thing, needs_put, needs_take_message}
 use Rattle.aom_semantics.specs.Places.{Cell, Elsewhere, Entry, In_service, Object, Place, Register, held}
-use Rattle.aom_semantics.specs.State.{A_mark, An_object, An_operation, Choice, Dispatch, Frame, Home, Item}
-use Rattle.aom_semantics.specs.State.{Need, Run, State, Task, Trapped, field_place, guarded, home_view}
+use Rattle.aom_semantics.specs.State.{A_mark, An_object, An_operation, Choice, Dispatch, Frame, Receiver, Item}
+use Rattle.aom_semantics.specs.State.{Need, Run, State, Task, Trapped, field_place, guarded, receiver_view}
 use Rattle.aom_determinism.proofs.NamedCells.{held_renamed, past_kept, moved_renamed, none_owns_kept, redeemable_kept, requested_kept, tasks_counted}
 use Rattle.aom_determinism.proofs.Serving.{token_named, without_queue_renamed}
 use Rattle.aom_determinism.specs.Names.{IsOneToOne, renamed, renamed_cells, renamed_choice, renamed_dispatch, renamed_frame}
-use Rattle.aom_determinism.specs.Names.{renamed_home, renamed_object, renamed_outcome, renamed_place, renamed_tasks}
+use Rattle.aom_determinism.specs.Names.{renamed_receiver, renamed_object, renamed_outcome, renamed_place, renamed_tasks}
 
 -- ---- what is asked of an object, none of which is its name
 
@@ -47,13 +47,13 @@ module _ (names : ℕ → ℕ) where
       needs_target_object p class (option_map (renamed_object names) o) ≡ needs_target_object p class o
   target_object_kept p class o = rw (some_kept o, worked_kept p class o)
 
-  pub view_kept : (h : Home) → home_view (renamed_home names h) ≡ home_view h
+  pub view_kept : (h : Receiver) → receiver_view (renamed_receiver names h) ≡ receiver_view h
   view_kept x = grind arith
 
-  pub kind_kept : (p : Image) (h : Home) → home_kind p (renamed_home names h) ≡ home_kind p h
+  pub kind_kept : (p : Image) (h : Receiver) → receiver_kind p (renamed_receiver names h) ≡ receiver_kind p h
   kind_kept p x = grind arith
 
-  pub field_renamed : (h : Home) (f : ℕ) → field_place (renamed_home names h) f ≡ renamed_place names (field_place h f)
+  pub field_renamed : (h : Receiver) (f : ℕ) → field_place (renamed_receiver names h) f ≡ renamed_place names (field_place h f)
   field_renamed x f = grind arith
 
   -- ---- what is asked of tasks
@@ -97,12 +97,12 @@ module _ (names : ℕ → ℕ) (one_to_one : IsOneToOne names) where
   message_at cs ts a = ap is_no_message (register_renamed cs ts a) ∙ message_kept names (held cs (Register (length ts) a))
 
   -- what a field has
-  pub held_field : (cs : List Cell) (h : Home) (f : ℕ) →
-      held (renamed_cells names cs) (field_place (renamed_home names h) f) ≡ option_map (renamed_object names) (held cs (field_place h f))
+  pub held_field : (cs : List Cell) (h : Receiver) (f : ℕ) →
+      held (renamed_cells names cs) (field_place (renamed_receiver names h) f) ≡ option_map (renamed_object names) (held cs (field_place h f))
   held_field cs h f = ap (held (renamed_cells names cs)) (field_renamed names h f) ∙ held_renamed names one_to_one cs (field_place h f)
 
-  field_at : (cs : List Cell) (h : Home) (f : ℕ) →
-      is_none (held (renamed_cells names cs) (field_place (renamed_home names h) f)) ≡ is_none (held cs (field_place h f))
+  field_at : (cs : List Cell) (h : Receiver) (f : ℕ) →
+      is_none (held (renamed_cells names cs) (field_place (renamed_receiver names h) f)) ≡ is_none (held cs (field_place h f))
   field_at cs h f = ap is_none (held_field cs h f) ∙ none_kept names (held cs (field_place h f))
 
   pub place_owns : (cs : List Cell) (q : Place) → is_some (held (renamed_cells names cs) (renamed_place names q)) ≡ is_some (held cs q)
@@ -116,7 +116,7 @@ module _ (names : ℕ → ℕ) (one_to_one : IsOneToOne names) where
   ended_kept x cs = grind (arith, nat_tests, place_free cs, place_free cs (Elsewhere In_service))
 
   -- the request of what a method works on
-  pub own_request_kept : (cs : List Cell) (h : Home) → own_request (renamed_cells names cs) (renamed_home names h) ≡ own_request cs h
+  pub own_request_kept : (cs : List Cell) (h : Receiver) → own_request (renamed_cells names cs) (renamed_receiver names h) ≡ own_request cs h
   own_request_kept cs x = grind (arith, nat_tests, requested_kept names one_to_one cs)
 
   entry_owns : (cs : List Cell) (k : ℕ) → is_some (held (renamed_cells names cs) (Entry k)) ≡ is_some (held cs (Entry k))
@@ -143,20 +143,20 @@ module _ (names : ℕ → ℕ) (one_to_one : IsOneToOne names) (p : Image) (c : 
   -- ---- calls
 
   -- of the first fields of what is worked on
-  filled_kept : (home : Home) (n : ℕ) → none_filled (renamed_cells names s.cells) (renamed_home names home) n ≡ none_filled s.cells home n
-  filled_kept home zero = refl
-  filled_kept home (suc n) = rw (field_at names one_to_one s.cells home n, filled_kept home n)
+  filled_kept : (receiver : Receiver) (n : ℕ) → none_filled (renamed_cells names s.cells) (renamed_receiver names receiver) n ≡ none_filled s.cells receiver n
+  filled_kept receiver zero = refl
+  filled_kept receiver (suc n) = rw (field_at names one_to_one s.cells receiver n, filled_kept receiver n)
 
   pub target_kept : (target : Target) (m : ℕ) (class : Option ℕ) (first count : ℕ) →
       needs_target p fr' ts' s' target m class first count ≡ needs_target p fr ts s target m class first count
   target_kept x m class first count = grind (
     arith,
     nat_tests,
-    filled_kept fr.home,
+    filled_kept fr.receiver,
     register_renamed names one_to_one s.cells ts,
     some_kept names,
     worked_kept names p class,
-    held_field names one_to_one s.cells fr.home,
+    held_field names one_to_one s.cells fr.receiver,
     target_object_kept names p class,
     held_renamed names one_to_one s.cells,
   )
@@ -218,7 +218,7 @@ module _ (names : ℕ → ℕ) (one_to_one : IsOneToOne names) (p : Image) (c : 
     leaves_object_kept,
     tasks_counted names ts,
     none_owns_kept names s.cells,
-    own_request_kept names one_to_one s.cells fr.home,
+    own_request_kept names one_to_one s.cells fr.receiver,
     end_kept ts,
   )
 
@@ -258,7 +258,7 @@ module _ (names : ℕ → ℕ) (one_to_one : IsOneToOne names) (p : Image) (c : 
   )
 
   pub put_kept : (f b : ℕ) → needs_put p c' fr' ts' s' f b ≡ needs_put p c fr ts s f b
-  put_kept f b = grind (arith, nat_tests, register_renamed names one_to_one s.cells ts b, field_at names one_to_one s.cells fr.home f)
+  put_kept f b = grind (arith, nat_tests, register_renamed names one_to_one s.cells ts b, field_at names one_to_one s.cells fr.receiver f)
 
 -- ---- what becomes of a state once its needs are met
 

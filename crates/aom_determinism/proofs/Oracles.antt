@@ -6,7 +6,7 @@ use Rattle.aom_image.specs.Image.{Image}
 use Rattle.aom_semantics.specs.State.{State}
 use Rattle.aom_semantics.specs.World.{Environment, Reaches, begins, moves, turns}
 use Rattle.aom_transcript.specs.declared.line.Line.{Line}
-use Rattle.aom_determinism.specs.Hearing.{Follows, Oracle, stages}
+use Rattle.aom_determinism.specs.Observing.{Follows, Oracle, stages}
 use Rattle.aom_determinism.specs.Determined.{EachRunFollows}
 
 -- the same, but for one stage
@@ -32,29 +32,29 @@ module _ {p : Image} {outside : Environment} {from : State} where
       Follows one reached → Follows other reached
   follows_both one other begins same follows = tt
   follows_both one other (moves c reached busy opened goes) same follows = search (arith, nat_tests, follows_both one other reached, sooner)
-  follows_both one other (turns heard reached between well goes) same follows = search (arith, nat_tests, follows_both one other reached, sooner)
+  follows_both one other (turns observed reached between well goes) same follows = search (arith, nat_tests, follows_both one other reached, sooner)
 
   -- what a run heard
-  abbrev heard_by : {lines : List Line} {s : State} → Reaches p outside from lines s → Oracle
-  heard_by begins = record { answers = λ n. pos 0; completes = λ n. None }
-  heard_by (moves c reached busy opened goes) = let before = heard_by reached in record before { answers = said before.answers (stages reached) c.answer }
-  heard_by (turns heard reached between well goes) = let before = heard_by reached in
-      record before { completes = said before.completes (stages reached) heard.completion }
+  abbrev observed_by : {lines : List Line} {s : State} → Reaches p outside from lines s → Oracle
+  observed_by begins = record { answers = λ n. pos 0; completes = λ n. None }
+  observed_by (moves c reached busy opened goes) = let before = observed_by reached in record before { answers = said before.answers (stages reached) c.answer }
+  observed_by (turns observed reached between well goes) = let before = observed_by reached in
+      record before { completes = said before.completes (stages reached) observed.completion }
 
-  follows_it : {lines : List Line} {s : State} (reached : Reaches p outside from lines s) → Follows (heard_by reached) reached
+  follows_it : {lines : List Line} {s : State} (reached : Reaches p outside from lines s) → Follows (observed_by reached) reached
   follows_it begins = tt
   follows_it (moves c reached busy opened goes) =
-      let before = heard_by reached in
+      let before = observed_by reached in
       let n = stages reached in
       let same : SameBefore n before (record before { answers = said before.answers n c.answer }) =
       record { answers = said_before before.answers n c.answer; completes = λ k lt. refl } in
-      (follows_both before (record before { answers = said before.answers n c.answer }) reached same (follows_it reached), λ heard. sym (said_here before.answers n c.answer))
-  follows_it (turns heard reached between well goes) =
-      let before = heard_by reached in
+      (follows_both before (record before { answers = said before.answers n c.answer }) reached same (follows_it reached), λ observed. sym (said_here before.answers n c.answer))
+  follows_it (turns observed reached between well goes) =
+      let before = observed_by reached in
       let n = stages reached in
-      let same : SameBefore n before (record before { completes = said before.completes n heard.completion }) =
-      record { answers = λ k lt. refl; completes = said_before before.completes n heard.completion } in
-      (follows_both before (record before { completes = said before.completes n heard.completion }) reached same (follows_it reached), λ polled. sym (said_here before.completes n heard.completion))
+      let same : SameBefore n before (record before { completes = said before.completes n observed.completion }) =
+      record { answers = λ k lt. refl; completes = said_before before.completes n observed.completion } in
+      (follows_both before (record before { completes = said before.completes n observed.completion }) reached same (follows_it reached), λ polled. sym (said_here before.completes n observed.completion))
 
 pub each_run_follows : EachRunFollows
-each_run_follows p outside from lines s reached = (heard_by reached, follows_it reached)
+each_run_follows p outside from lines s reached = (observed_by reached, follows_it reached)

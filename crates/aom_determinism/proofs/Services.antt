@@ -11,16 +11,16 @@ use Rattle.aom_image.specs.declared.method.Thing.TheVariants.{Message}
 use Rattle.aom_determinism.proofs.Cells.{Unchanged, unchanged_alike, unchanged_along, unchanged_itself, unchanged_new}
 use Rattle.aom_determinism.specs.Owed.{meets, owes, serves, serves_object}
 use Rattle.aom_roles.specs.Shapes.{kind_of}
-use Rattle.aom_rules.specs.Typing.{Typing}
-use Rattle.aom_determinism.proofs.SafetyLemmas.{a_cell_of, cell_in, cell_in_sifted, cell_lives, cell_of, cell_of_sifted, cell_owner, cell_placed, held_cell}
-use Rattle.aom_determinism.proofs.SafetyLemmas.{kept, named_cell, named_served, object_in, queued_claim, request_in, requested_cell, requested_served, sifted}
-use Rattle.aom_determinism.proofs.SafetyLemmas.{tidy_sifted, unqueued_so, unslotted_so, waits_message, withdrawn_so}
+use Rattle.aom_typing_rules.specs.Typing.{Typing}
+use Rattle.aom_determinism.proofs.SafetyLemmas.{a_cell_of, cell_in, cell_in_filtered_cells, cell_lives, cell_of, cell_of_filtered_cells, cell_owner, cell_placed, held_cell}
+use Rattle.aom_determinism.proofs.SafetyLemmas.{kept, named_cell, named_served, object_in, queued_claim, request_in, requested_cell, requested_served, filtered_cells}
+use Rattle.aom_determinism.proofs.SafetyLemmas.{tidy_filtered_cells, unqueued_so, slot_released_so, waits_message, withdrawn_so}
 use Rattle.aom_determinism.proofs.SemanticsLemmas.{same_place-true}
 use Rattle.aom_safety.specs.Claims.{Layer}
 use Rattle.aom_transcript.specs.declared.event.ClientCommand.{ClientCommand}
-use Rattle.aom_semantics.specs.Clients.{commanded, each_unslotted, leaving, sending}
+use Rattle.aom_semantics.specs.Clients.{commanded, each_slot_released, leaving, sending}
 use Rattle.aom_semantics.specs.Natives.{is_owed, is_served_by}
-use Rattle.aom_semantics.specs.Places.{Cell, Going, Object, Place, Service, Tidy, held, in_session, named, same_place, set_service, without}
+use Rattle.aom_semantics.specs.Places.{Cell, Going, Object, Place, Service, NoDuplicates, held, in_session, named, same_place, set_service, without}
 use Rattle.aom_semantics.specs.Servers.{is_from, is_queue, is_queue_of, without_queue, withdrawn}
 use Rattle.aom_semantics.specs.State.{State}
 use Rattle.aom_safety.specs.WellTyped.{Good}
@@ -65,26 +65,26 @@ module _ (p : Image) (k : ℕ) where
 abbrev pub DropsMessages : (Cell → Bool) → List Cell → Type 0
 DropsMessages drops cs = (c : Cell) → cell_in cs c.owner ≡ Some c → drops c ≡ true → c.object.thing ≡ Message
 
-module _ (p : Image) (drops : Cell → Bool) (f : Cell → Service) (cs : List Cell) (tidy : Tidy cs) (messages : DropsMessages drops cs) where
+module _ (p : Image) (drops : Cell → Bool) (f : Cell → Service) (cs : List Cell) (no_duplicates : NoDuplicates cs) (messages : DropsMessages drops cs) where
   by_cell : (k m : ℕ) (f' : Option Cell → Bool) → ((c : Cell) → f' (Some (record c { service = f c })) ≡ f' (Some c)) →
-      ((c : Cell) → is_served_by p k c.object.thing ≡ false → f' None ≡ f' (Some c)) → f' (cell_of (sifted drops f cs) m) ≡ f' (cell_of cs m)
-  by_cell k m test stays goes = grind (arith, nat_tests, cell_of_sifted drops f cs m tidy, cell_of cs m, kept drops f, unserved_message p k, cell_placed cs m)
+      ((c : Cell) → is_served_by p k c.object.thing ≡ false → f' None ≡ f' (Some c)) → f' (cell_of (filtered_cells drops f cs) m) ≡ f' (cell_of cs m)
+  by_cell k m test stays goes = grind (arith, nat_tests, cell_of_filtered_cells drops f cs m no_duplicates, cell_of cs m, kept drops f, unserved_message p k, cell_placed cs m)
 
-  pub serves_sifted : (k m : ℕ) → serves p (sifted drops f cs) k m ≡ serves p cs k m
-  serves_sifted k m = serves_cell p k (sifted drops f cs) m ∙ by_cell k m (λ x. serves_in p k x) (λ c. refl) (λ c e. sym e) ∙ sym (serves_cell p k cs m)
+  pub serves_filtered_cells : (k m : ℕ) → serves p (filtered_cells drops f cs) k m ≡ serves p cs k m
+  serves_filtered_cells k m = serves_cell p k (filtered_cells drops f cs) m ∙ by_cell k m (λ x. serves_in p k x) (λ c. refl) (λ c e. sym e) ∙ sym (serves_cell p k cs m)
 
-  pub unchanged_sifted : Unchanged p cs (sifted drops f cs)
-  unchanged_sifted = record {
-    owes = λ k m. owes_cell p k (sifted drops f cs) m
+  pub unchanged_filtered_cells : Unchanged p cs (filtered_cells drops f cs)
+  unchanged_filtered_cells = record {
+    owes = λ k m. owes_cell p k (filtered_cells drops f cs) m
         ∙ by_cell k m (λ x. serves_in p k x && is_owed (request_in x)) (λ c. refl) (λ c e. sym (ap (λ b. b && is_owed c.request) e)) ∙ sym (owes_cell p k cs m);
-    meets = λ k m. meets_cell p k (sifted drops f cs) m
+    meets = λ k m. meets_cell p k (filtered_cells drops f cs) m
         ∙ by_cell k m (λ x. serves_in p k x && session_in x) (λ c. refl) (λ c e. sym (ap (λ b. b && c.session) e)) ∙ sym (meets_cell p k cs m);
   }
 
   -- a cell that stays has its session
-  pub session_sifted : (c : Cell) (m : ℕ) → cell_of cs m ≡ Some c → drops c ≡ false → in_session (sifted drops f cs) m ≡ in_session cs m
-  session_sifted c m at stays =
-      grind (arith, nat_tests, session_cell (sifted drops f cs) m, sifted drops f cs, cell_of_sifted drops f cs m tidy, kept drops f, session_cell cs m)
+  pub session_filtered_cells : (c : Cell) (m : ℕ) → cell_of cs m ≡ Some c → drops c ≡ false → in_session (filtered_cells drops f cs) m ≡ in_session cs m
+  session_filtered_cells c m at stays =
+      grind (arith, nat_tests, session_cell (filtered_cells drops f cs) m, filtered_cells drops f cs, cell_of_filtered_cells drops f cs m no_duplicates, kept drops f, session_cell cs m)
 
 -- ---- which cells these are
 
@@ -101,13 +101,13 @@ module _ (p : Image) (t : Typing) (cs : List Cell) (ls : List Layer) (good : Goo
   queue_drops n c at e = queue_message c.owner c.object (grind arith) (in_place c at)
 
   pub unchanged_unqueued : (n : ℕ) → Unchanged p cs (without_queue n cs)
-  unchanged_unqueued n = grind (arith, nat_tests, Unchanged p cs, unqueued_so n cs, unchanged_sifted p, queue_drops n)
+  unchanged_unqueued n = grind (arith, nat_tests, Unchanged p cs, unqueued_so n cs, unchanged_filtered_cells p, queue_drops n)
 
   pub serves_unqueued : (n k m : ℕ) → serves p (without_queue n cs) k m ≡ serves p cs k m
-  serves_unqueued n k m = grind (arith, nat_tests, unqueued_so n cs, serves_sifted p, queue_drops n)
+  serves_unqueued n k m = grind (arith, nat_tests, unqueued_so n cs, serves_filtered_cells p, queue_drops n)
 
-  pub tidy_unqueued : (n : ℕ) → Tidy (without_queue n cs)
-  tidy_unqueued n = subst Tidy (sym (unqueued_so n cs)) (tidy_sifted (λ c. is_queue_of n c.owner) (λ c. c.service) cs good.tidy)
+  pub tidy_unqueued : (n : ℕ) → NoDuplicates (without_queue n cs)
+  tidy_unqueued n = subst NoDuplicates (sym (unqueued_so n cs)) (tidy_filtered_cells (λ c. is_queue_of n c.owner) (λ c. c.service) cs good.no_duplicates)
 
   -- what is going stays, with its session
   module _ (n k : ℕ) (o : Object) (there : held cs (Going k) ≡ Some o) where
@@ -118,17 +118,17 @@ module _ (p : Image) (t : Typing) (cs : List Cell) (ls : List Layer) (good : Goo
     stays = ap (is_queue_of n) (cell_owner cs (Going k) cell.0 cell.1)
 
     pub going_unqueued : held (without_queue n cs) (Going k) ≡ Some o
-    going_unqueued = grind (arith, nat_tests, unqueued_so n cs, held_cell, sifted, object_in, cell_in_sifted, kept, stays)
+    going_unqueued = grind (arith, nat_tests, unqueued_so n cs, held_cell, filtered_cells, object_in, cell_in_filtered_cells, kept, stays)
 
     pub session_unqueued : in_session (without_queue n cs) o.name ≡ in_session cs o.name
     session_unqueued =
-        grind (arith, nat_tests, unqueued_so n cs, session_sifted p, queue_drops n, cell_of cs, cell_lives cs (Going k) cell.0 good.tidy cell.1, stays)
+        grind (arith, nat_tests, unqueued_so n cs, session_filtered_cells p, queue_drops n, cell_of cs, cell_lives cs (Going k) cell.0 good.no_duplicates cell.1, stays)
 
   -- a message goes from its place
   pub unchanged_completed : (q : Place) → ((x : Object) → held cs q ≡ Some x → x.thing ≡ Message) → Unchanged p cs (without q cs)
-  unchanged_completed q message = rw (without_so cs) (unchanged_sifted p (λ c. same_place c.owner q) (λ c. c.service) cs good.tidy drops)
+  unchanged_completed q message = rw (without_so cs) (unchanged_filtered_cells p (λ c. same_place c.owner q) (λ c. c.service) cs good.no_duplicates drops)
     where
-      without_so : (cs : List Cell) → without q cs ≡ sifted (λ c. same_place c.owner q) (λ c. c.service) cs
+      without_so : (cs : List Cell) → without q cs ≡ filtered_cells (λ c. same_place c.owner q) (λ c. c.service) cs
       without_so [] = refl
       without_so (c ∷ cs) = ap (λ l. cond (same_place c.owner q) l (c ∷ l)) (without_so cs)
 
@@ -136,14 +136,14 @@ module _ (p : Image) (t : Typing) (cs : List Cell) (ls : List Layer) (good : Goo
       drops c at e = message c.object (ap (λ r. held cs r) (sym (same_place-true c.owner q e)) ∙ in_place c at)
 
   pub unchanged_withdrawn : (client : ℕ) → Unchanged p cs (withdrawn client cs)
-  unchanged_withdrawn client = rw (withdrawn_so client cs) (unchanged_sifted p _ _ cs good.tidy
+  unchanged_withdrawn client = rw (withdrawn_so client cs) (unchanged_filtered_cells p _ _ cs good.no_duplicates
       (λ c at e. queue_message c.owner c.object (and_parts (is_queue c.owner) (is_from client c.service.sender) e).0 (in_place c at)))
 
 -- messages hold no slot any more
-pub unchanged_unslotted : (p : Image) (clients : List ℕ) (cs : List Cell) → Tidy cs → Unchanged p cs (each_unslotted clients cs)
-unchanged_unslotted p [] cs tidy = unchanged_itself p cs
-unchanged_unslotted p (c ∷ clients) cs tidy =
-    grind (arith, nat_tests, unchanged_along p cs, Unchanged p cs, unslotted_so c cs, unchanged_sifted p, unchanged_unslotted p clients, tidy_sifted)
+pub unchanged_slot_released : (p : Image) (clients : List ℕ) (cs : List Cell) → NoDuplicates cs → Unchanged p cs (each_slot_released clients cs)
+unchanged_slot_released p [] cs no_duplicates = unchanged_itself p cs
+unchanged_slot_released p (c ∷ clients) cs no_duplicates =
+    grind (arith, nat_tests, unchanged_along p cs, Unchanged p cs, slot_released_so c cs, unchanged_filtered_cells p, unchanged_slot_released p clients, tidy_filtered_cells)
 
 -- ---- a client's command
 

@@ -6,15 +6,15 @@ use Rattle.std.proofs.lemmas.List.{map-append}
 use Rattle.std.specs.Prelude.{option_map}
 use Rattle.aom_clients.specs.declared.client.Client.{Client}
 use Rattle.aom_clients.specs.declared.client.Client.TheVariants.{Unconnected}
-use Rattle.aom_clients.specs.Table.{at_gone}
-use Rattle.aom_semantics.specs.Clients.{at_opening, at_parting, client_at, each_unslotted, queue_ended, sessions_ended, with_client}
+use Rattle.aom_clients.specs.Table.{after_server_destroyed}
+use Rattle.aom_semantics.specs.Clients.{at_opening, at_parting, client_at, each_slot_released, queue_ended, sessions_ended, with_client}
 use Rattle.aom_semantics.specs.Destruction.{first_session}
 use Rattle.aom_semantics.specs.Places.{Asked, Cell, Connect_of, Elsewhere, Object, Service, Session, service_of, set_service}
-use Rattle.aom_semantics.specs.Servers.{all_unslotted, asked_last, has_more, opened, parted}
+use Rattle.aom_semantics.specs.Servers.{all_slot_released, asked_last, has_more, opened, parted}
 use Rattle.aom_semantics.specs.Servers.{reserved, taken_first, without_queue}
 use Rattle.aom_determinism.proofs.NamedCells.{cond_applied, held_renamed, same_name}
 use Rattle.aom_determinism.specs.Names.{IsOneToOne, renamed_asked, renamed_cells, renamed_client, renamed_clients}
-use Rattle.aom_determinism.specs.Names.{renamed_object, renamed_queue, renamed_seat, renamed_service}
+use Rattle.aom_determinism.specs.Names.{renamed_object, renamed_queue, renamed_owned_object, renamed_service}
 
 module _ (names : ℕ → ℕ) where
   -- ---- what a client is at
@@ -34,7 +34,7 @@ module _ (names : ℕ → ℕ) where
   parting_renamed : (x : Client) → at_parting (renamed_client names x) ≡ renamed_client names (at_parting x)
   parting_renamed x = grind arith
 
-  gone_renamed : (x : Client) → at_gone (renamed_client names x) ≡ renamed_client names (at_gone x)
+  gone_renamed : (x : Client) → after_server_destroyed (renamed_client names x) ≡ renamed_client names (after_server_destroyed x)
   gone_renamed x = grind arith
 
   -- what becomes of what a client is at
@@ -60,19 +60,19 @@ module _ (names : ℕ → ℕ) where
   pub sessions_ended_renamed : (cs : List ℕ) (clients : List Client) →
       sessions_ended cs (renamed_clients names clients) ≡ renamed_clients names (sessions_ended cs clients)
   sessions_ended_renamed [] clients = refl
-  sessions_ended_renamed (c ∷ cs) clients = ap (sessions_ended cs) (changed_client_renamed at_gone gone_renamed c clients)
-      ∙ sessions_ended_renamed cs (with_client c (at_gone (client_at clients c)) clients)
+  sessions_ended_renamed (c ∷ cs) clients = ap (sessions_ended cs) (changed_client_renamed after_server_destroyed gone_renamed c clients)
+      ∙ sessions_ended_renamed cs (with_client c (after_server_destroyed (client_at clients c)) clients)
 
   -- ---- slots, which name nothing
 
-  unslotted_renamed : (c : ℕ) (cs : List Cell) → all_unslotted c (renamed_cells names cs) ≡ renamed_cells names (all_unslotted c cs)
-  unslotted_renamed c [] = refl
-  unslotted_renamed c (x ∷ xs) = grind (arith, nat_tests, unslotted_renamed c xs)
+  slot_released_renamed : (c : ℕ) (cs : List Cell) → all_slot_released c (renamed_cells names cs) ≡ renamed_cells names (all_slot_released c cs)
+  slot_released_renamed c [] = refl
+  slot_released_renamed c (x ∷ xs) = grind (arith, nat_tests, slot_released_renamed c xs)
 
-  pub each_unslotted_renamed : (clients : List ℕ) (cs : List Cell) →
-      each_unslotted clients (renamed_cells names cs) ≡ renamed_cells names (each_unslotted clients cs)
-  each_unslotted_renamed [] cs = refl
-  each_unslotted_renamed (c ∷ clients) cs = ap (each_unslotted clients) (unslotted_renamed c cs) ∙ each_unslotted_renamed clients (all_unslotted c cs)
+  pub each_slot_released_renamed : (clients : List ℕ) (cs : List Cell) →
+      each_slot_released clients (renamed_cells names cs) ≡ renamed_cells names (each_slot_released clients cs)
+  each_slot_released_renamed [] cs = refl
+  each_slot_released_renamed (c ∷ clients) cs = ap (each_slot_released clients) (slot_released_renamed c cs) ∙ each_slot_released_renamed clients (all_slot_released c cs)
 
   -- ---- a queue
 
@@ -122,7 +122,7 @@ module _ (names : ℕ → ℕ) (one_to_one : IsOneToOne names) where
   -- ---- the first session that is there
 
   pub first_session_renamed : (cs : List Cell) (n : ℕ) (clients : List ℕ) →
-      first_session (renamed_cells names cs) (names n) clients ≡ option_map (renamed_seat names) (first_session cs n clients)
+      first_session (renamed_cells names cs) (names n) clients ≡ option_map (renamed_owned_object names) (first_session cs n clients)
   first_session_renamed cs n [] = refl
   first_session_renamed cs n (c ∷ clients) =
       grind (arith, nat_tests, held_renamed names one_to_one cs (Elsewhere (Session n c)), first_session_renamed cs n clients)

@@ -10,10 +10,10 @@ use Rattle.aom_determinism.proofs.SafetyLemmas.{accepts, attends, dispatched_so,
 use Rattle.aom_safety.specs.Counting.{restarts}
 use Rattle.aom_semantics.specs.Moves.{step}
 use Rattle.aom_semantics.specs.Servers.{is_server}
-use Rattle.aom_semantics.specs.State.{Choice, Goes, Seat, State, raised}
+use Rattle.aom_semantics.specs.State.{Choice, Goes, OwnedObject, State, raised}
 use Rattle.aom_semantics.specs.World.{Picks, turned}
-use Rattle.aom_determinism.proofs.ProgressLemmas.{begun_payer, payers}
-use Rattle.aom_progress.specs.Payers.{class_of, payer}
+use Rattle.aom_determinism.proofs.TerminationLemmas.{begun_budget_owner, budget_owners}
+use Rattle.aom_termination.specs.BudgetOwners.{class_of, budget_owner}
 use Rattle.aom_determinism.specs.Endings.{DispatchesAreSpent, one_where, spare}
 
 pub one_at_most : (b : Bool) → one_where b ≤ 1
@@ -24,11 +24,11 @@ moved_spares p limit most c s u goes = go (restarts p s.tasks) refl
   where
     go : (b : Bool) → restarts p s.tasks ≡ b → spare limit u ≤ spare limit s
     go b is = by_case b (dispatches_are_counted.moves p c s u goes ∙ ap (λ x. cond x (raised s.rest.dispatches) s.rest.dispatches) is)
-        (ap (λ o. one_where (is_some o)) (payers p c s u goes ∙ ap (λ x. cond x None (payer s.tasks)) is))
+        (ap (λ o. one_where (is_some o)) (budget_owners p c s u goes ∙ ap (λ x. cond x None (budget_owner s.tasks)) is))
       where
         by_case : (b : Bool) → u.rest.dispatches ≡ cond b (raised s.rest.dispatches) s.rest.dispatches →
-            one_where (is_some (payer u.tasks)) ≡ one_where (is_some (cond b None (payer s.tasks))) → spare limit u ≤ spare limit s
-        by_case true counts pays = omega (arith, counts, pays, one_at_most (is_some (payer s.tasks)), most)
+            one_where (is_some (budget_owner u.tasks)) ≡ one_where (is_some (cond b None (budget_owner s.tasks))) → spare limit u ≤ spare limit s
+        by_case true counts pays = omega (arith, counts, pays, one_at_most (is_some (budget_owner s.tasks)), most)
         by_case false counts pays = omega (arith, counts, pays)
 
 -- the dispatch of an object, or of a server, takes one of them
@@ -36,14 +36,14 @@ server_there : (p : Image) (t : Thing) → is_server p t ≡ true → is_some (c
 unfolding sessions_in kind_of
 server_there p t e = grind arith
 
-picked_class : (p : Image) (s u : State) (x : Seat) → turned p s (Picks x) ≡ Goes u → is_some (class_of x.object.thing) ≡ true
+picked_class : (p : Image) (s u : State) (x : OwnedObject) → turned p s (Picks x) ≡ Goes u → is_some (class_of x.object.thing) ≡ true
 picked_class p s u x goes = grind (arith, nat_tests, server_there p x.object.thing, dispatched_so p s u x)
 
 -- its class pays
-pub picked_pays : (p : Image) (s u : State) (x : Seat) → turned p s (Picks x) ≡ Goes u → is_some (payer u.tasks) ≡ true
-picked_pays p s u x goes = ap is_some (grind (arith, nat_tests, handles, accepts, attends, parts, begun_payer)) ∙ picked_class p s u x goes
+pub picked_pays : (p : Image) (s u : State) (x : OwnedObject) → turned p s (Picks x) ≡ Goes u → is_some (budget_owner u.tasks) ≡ true
+picked_pays p s u x goes = ap is_some (grind (arith, nat_tests, handles, accepts, attends, parts, begun_budget_owner)) ∙ picked_class p s u x goes
 
-pub picked_spares : (p : Image) (limit : ℕ) (s u : State) (x : Seat) → s.rest.dispatches < limit → s.tasks ≡ [] → turned p s (Picks x) ≡ Goes u →
+pub picked_spares : (p : Image) (limit : ℕ) (s u : State) (x : OwnedObject) → s.rest.dispatches < limit → s.tasks ≡ [] → turned p s (Picks x) ≡ Goes u →
     spare limit u < spare limit s
 picked_spares p limit s u x below idle goes = grind (arith, nat_tests, picked_pays p s u x goes, picked_rest p s u x goes)
 

@@ -6,27 +6,27 @@ use Rattle.aom_image.specs.Image.{Image}
 use Rattle.aom_image.specs.declared.method.Role.TheVariants.{Error as Answers}
 use Rattle.aom_image.specs.Views.{instr_at}
 use Rattle.aom_instructions.specs.declared.instr.Instr.{Instr}
-use Rattle.aom_semantics.specs.World.{Heard, HearsWell, Environment}
+use Rattle.aom_semantics.specs.World.{Observed, ObservesWell, Environment}
 use Rattle.aom_semantics.specs.Cleanup.{arrived, unwound}
 use Rattle.aom_clients.specs.declared.client.Client.TheVariants.{Unconnected}
-use Rattle.aom_semantics.specs.Destruction.{closing, gone, parting, vanished}
+use Rattle.aom_semantics.specs.Destruction.{closing, gone, parting, reclaimed}
 use Rattle.aom_semantics.specs.Requests.{part_of}
 use Rattle.aom_semantics.specs.Moves.{IsOpen, answered, asking, dispatch_ends, is_refused, main_ends, makes_cell}
 use Rattle.aom_semantics.specs.Moves.{needs_end, object_ends, stage_ends, step, step_instr, step_task, written, written_task}
 use Rattle.aom_semantics.specs.Places.{Cell, Elsewhere, Going, In_service, Object, Root, named}
 use Rattle.aom_semantics.specs.State.{A_mark, An_object, An_operation, Answered, Asks, Choice, Closing, Destroy, Dispatch, Dispatched, Frame, Item}
-use Rattle.aom_semantics.specs.State.{Object_left, Of_main, Of_object, Of_root, Of_server, Run, Seat, Stage, State, Task, Trapped, Unwind}
+use Rattle.aom_semantics.specs.State.{Object_left, Of_main, Of_object, Of_root, Of_server, Run, OwnedObject, Stage, State, Task, Trapped, Unwind}
 use Rattle.aom_determinism.proofs.NamedCells.{cells_counted, cond_applied, emptied_kept, held_renamed, moved_renamed}
 use Rattle.aom_determinism.proofs.NamedCells.{named_renamed, requested_kept, tasks_counted, without_renamed}
-use Rattle.aom_determinism.proofs.Doing.{begun_renamed, dealt_renamed, destructed_renamed, does_renamed, needs_kept, told_renamed}
+use Rattle.aom_determinism.proofs.Doing.{begun_renamed, dealt_renamed, destructed_renamed, does_renamed, needs_kept, reported_renamed}
 use Rattle.aom_determinism.proofs.Needs.{guarded_renamed, place_owns, register_renamed, whole_kept}
 use Rattle.aom_determinism.proofs.Lines.{dispatch_lines_kept, message_line_kept, queue_lines_kept}
-use Rattle.aom_determinism.proofs.Serving.{each_unslotted_renamed, first_session_renamed, parted_client_renamed, parts_renamed, queue_ended_renamed}
+use Rattle.aom_determinism.proofs.Serving.{each_slot_released_renamed, first_session_renamed, parted_client_renamed, parts_renamed, queue_ended_renamed}
 use Rattle.aom_determinism.proofs.Serving.{service_renamed, sessions_ended_renamed, with_client_renamed, without_queue_renamed}
 use Rattle.aom_determinism.proofs.Turning.{turns_so, writes_turn_so, answers_so}
 use Rattle.aom_determinism.specs.Determined.{NamesMeanNothing}
 use Rattle.aom_determinism.specs.Names.{IsOneToOne, renamed, renamed_cells, renamed_choice, renamed_stage, renamed_dispatch, renamed_frame}
-use Rattle.aom_determinism.specs.Names.{renamed_object, renamed_outcome, renamed_seat, renamed_tasks, renamed_heard}
+use Rattle.aom_determinism.specs.Names.{renamed_object, renamed_outcome, renamed_owned_object, renamed_tasks, renamed_observed}
 
 module _ (names : ℕ → ℕ) (one_to_one : IsOneToOne names) where
   instr_renamed : (p : Image) (c : Choice) (fr : Frame) (ts : List Task) (s : State) (i : Option Instr) → step_instr p
@@ -36,15 +36,15 @@ module _ (names : ℕ → ℕ) (one_to_one : IsOneToOne names) where
 
   -- ---- a cell goes
 
-  vanished_renamed : (o : Object) (ts : List Task) (s : State) →
-      vanished (renamed_object names o) (renamed_tasks names ts) (renamed names s) ≡ renamed names (vanished o ts s)
-  vanished_renamed o ts s = grind (
+  reclaimed_renamed : (o : Object) (ts : List Task) (s : State) →
+      reclaimed (renamed_object names o) (renamed_tasks names ts) (renamed names s) ≡ renamed names (reclaimed o ts s)
+  reclaimed_renamed o ts s = grind (
     arith,
     nat_tests,
     tasks_counted names ts,
     without_queue_renamed names one_to_one o.name s.cells,
     without_renamed names one_to_one,
-    each_unslotted_renamed names,
+    each_slot_released_renamed names,
     queue_ended_renamed names,
     sessions_ended_renamed names,
     service_renamed names one_to_one s.cells o.name,
@@ -52,12 +52,12 @@ module _ (names : ℕ → ℕ) (one_to_one : IsOneToOne names) where
 
   gone_renamed : (o : Option Object) (ts : List Task) (s : State) →
       gone (option_map (renamed_object names) o) (renamed_tasks names ts) (renamed names s) ≡ renamed_outcome names (gone o ts s)
-  gone_renamed x ts s = grind (arith, nat_tests, without_queue_renamed, emptied_kept, requested_kept, vanished_renamed, guarded_renamed names)
+  gone_renamed x ts s = grind (arith, nat_tests, without_queue_renamed, emptied_kept, requested_kept, reclaimed_renamed, guarded_renamed names)
 
   -- ---- the sessions of a server
 
-  parting_renamed : (p : Image) (o : Object) (x : Option Seat) (below : List Task) (s : State) → parting p
-      (renamed_object names o) (option_map (renamed_seat names) x) (renamed_tasks names below) (renamed names s) ≡ renamed names (parting p o x below s)
+  parting_renamed : (p : Image) (o : Object) (x : Option OwnedObject) (below : List Task) (s : State) → parting p
+      (renamed_object names o) (option_map (renamed_owned_object names) x) (renamed_tasks names below) (renamed names s) ≡ renamed names (parting p o x below s)
   parting_renamed p o None below s = ap (λ ts. record (renamed names s) { tasks = ts }) (destructed_renamed names p o (length s.items) below)
   parting_renamed p o (Some x) below s =
       grind (arith, nat_tests, tasks_counted names below, moved_renamed names one_to_one x.place, begun_renamed names p x.object)
@@ -68,7 +68,7 @@ module _ (names : ℕ → ℕ) (one_to_one : IsOneToOne names) where
 
   arrived_renamed : (p : Image) (code : ℤ) (ts : List Task) (items : List Item) (s : State) →
       arrived p code (renamed_tasks names ts) items (renamed names s) ≡ renamed_outcome names (arrived p code ts items s)
-  arrived_renamed p code x items s = grind (arith, nat_tests, told_renamed names)
+  arrived_renamed p code x items s = grind (arith, nat_tests, reported_renamed names)
 
   unwound_renamed : (p : Image) (code : ℤ) (ts : List Task) (s : State) (items : List Item) →
       unwound p code (renamed_tasks names ts) (renamed names s) items ≡ renamed_outcome names (unwound p code ts s items)
@@ -94,13 +94,13 @@ module _ (names : ℕ → ℕ) (one_to_one : IsOneToOne names) where
   answered_renamed : (p : Image) (answer : ℤ) (s : State) → answered p answer (renamed names s) ≡ renamed names (answered p answer s)
   answered_renamed p answer s = grind (arith, nat_tests, object_ends_renamed p s, cond_applied)
 
-  asking_renamed : (p : Image) (m : Option ℕ) (x : Seat) (code : ℤ) (s : State) →
-      asking p m (renamed_seat names x) code (renamed names s) ≡ renamed names (asking p m x code s)
+  asking_renamed : (p : Image) (m : Option ℕ) (x : OwnedObject) (code : ℤ) (s : State) →
+      asking p m (renamed_owned_object names x) code (renamed names s) ≡ renamed names (asking p m x code s)
   asking_renamed p x y code s = grind (arith, nat_tests, answered_renamed p code s)
 
   -- the end of a stage
-  stage_ends_renamed : (x : Seat) (c : ℕ) (stage : Stage) (s : State) →
-      stage_ends (renamed_seat names x) c (renamed_stage names stage) (renamed names s) ≡ renamed names (stage_ends x c stage s)
+  stage_ends_renamed : (x : OwnedObject) (c : ℕ) (stage : Stage) (s : State) →
+      stage_ends (renamed_owned_object names x) c (renamed_stage names stage) (renamed names s) ≡ renamed names (stage_ends x c stage s)
   stage_ends_renamed x c y s = grind (
     arith,
     nat_tests,
@@ -167,9 +167,9 @@ module _ (names : ℕ → ℕ) (one_to_one : IsOneToOne names) where
   pub opens_so : (p : Image) (refused : List ℕ) (c : Choice) (s : State) → IsOpen p refused c s → IsOpen p refused (renamed_choice names c) (renamed names s)
   opens_so p refused c s h = record { name = free_so s c.name h.name; refusal = h.refusal ∙ sym (refused_so p refused s); answer = h.answer }
 
-  hears_so : (p : Image) (outside : Environment) (heard : Heard) (s : State) → HearsWell p outside heard s →
-      HearsWell p outside (renamed_heard names heard) (renamed names s)
-  hears_so p outside heard s well = record { completion = answers_so names one_to_one p outside heard s well.completion; name = free_so s heard.name well.name }
+  observes_so : (p : Image) (outside : Environment) (observed : Observed) (s : State) → ObservesWell p outside observed s →
+      ObservesWell p outside (renamed_observed names observed) (renamed names s)
+  observes_so p outside observed s well = record { completion = answers_so names one_to_one p outside observed s well.completion; name = free_so s observed.name well.name }
 
 pub names_mean_nothing : NamesMeanNothing
-names_mean_nothing = search (arith, nat_tests, opens_so, moves_so, writes_so, turns_so, hears_so, writes_turn_so)
+names_mean_nothing = search (arith, nat_tests, opens_so, moves_so, writes_so, turns_so, observes_so, writes_turn_so)

@@ -5,14 +5,14 @@ use Rattle.std.proofs.Common.{refl, subst, suc, sym, true, zero, ℕ, ⊎_elim, 
 use Rattle.std.proofs.lemmas.Bool.{cases_eq, cases_lt}
 use Rattle.std.specs.Prelude.{◌++◌, ◌⊎◌}
 use Rattle.aom_image.specs.Image.{Image}
-use Rattle.aom_rules.specs.Typing.{IsTyped, Typing}
+use Rattle.aom_typing_rules.specs.Typing.{IsTyped, Typing}
 use Rattle.aom_determinism.proofs.SafetyLemmas.{WellKept, boot_keeps, clients_keep, over_idle, well_on}
 use Rattle.aom_safety.specs.Laws.{IsWired}
 use Rattle.aom_semantics.specs.Moves.{IsOpen, step, written}
 use Rattle.aom_semantics.specs.State.{Choice, Goes, Outcome, State}
 use Rattle.aom_semantics.specs.Places.{named}
-use Rattle.aom_semantics.specs.World.{Heard, IsBetween, IsBusy, Reaches, Run_of, begins, boot_state}
-use Rattle.aom_semantics.specs.World.{moves, nothing_heard, turn, turning, turns, written_turn, Environment}
+use Rattle.aom_semantics.specs.World.{Observed, IsBetween, IsBusy, Reaches, Run_of, begins, boot_state}
+use Rattle.aom_semantics.specs.World.{moves, nothing_observed, turn, turning, turns, written_turn, Environment}
 use Rattle.aom_transcript.specs.declared.line.Ending.{Ending}
 use Rattle.aom_transcript.specs.declared.line.Line.{Line}
 use Rattle.aom_determinism.proofs.Staying.{all_stays_there}
@@ -20,8 +20,8 @@ use Rattle.aom_determinism.specs.There.{AllThere}
 use Rattle.aom_determinism.proofs.Alike.{move_alike, turn_alike, turn_writes_alike, writes_alike}
 use Rattle.aom_determinism.specs.Determined.{Begins, TextIsDetermined}
 use Rattle.aom_determinism.specs.Names.{AlikeOutcomes, AreAlike}
-use Rattle.aom_determinism.specs.Hearing.{Follows, Oracle, is_heard, is_polling, stages}
-use Rattle.aom_determinism.proofs.Hearing.{heard_kept}
+use Rattle.aom_determinism.specs.Observing.{Follows, Oracle, is_observed, is_polling, stages}
+use Rattle.aom_determinism.proofs.Observing.{observed_kept}
 use Rattle.aom_determinism.proofs.Turning.{polling_kept}
 
 module _ (p : Image) (t : Typing) (outside : Environment) (wired : IsWired p) (typed : IsTyped p t) (oracle : Oracle) where
@@ -32,15 +32,15 @@ module _ (p : Image) (t : Typing) (outside : Environment) (wired : IsWired p) (t
     open_so : IsOpen p outside.refused choice v
     goes : step p choice v ≡ Goes s
     lines : new ≡ written p v
-    hears : is_heard p v.tasks ≡ true → choice.answer ≡ oracle.answers n
+    observes : is_observed p v.tasks ≡ true → choice.answer ≡ oracle.answers n
 
   record Turned (n : ℕ) (v s : State) (new : List Line) : Type 0 where
-    heard : Heard
+    observed : Observed
     between : IsBetween v
-    free : named v.cells heard.name ≡ None
-    goes : turn p outside heard v ≡ Goes s
+    free : named v.cells observed.name ≡ None
+    goes : turn p outside observed v ≡ Goes s
     lines : new ≡ written_turn p outside v
-    hears : is_polling (turning outside nothing_heard v) ≡ true → heard.completion ≡ oracle.completes n
+    observes : is_polling (turning outside nothing_observed v) ≡ true → observed.completion ≡ oracle.completes n
 
   abbrev Stage : ℕ → State → State → List Line → Type 0
   Stage n v s new = Moved n v s new ⊎ Turned n v s new
@@ -54,9 +54,9 @@ module _ (p : Image) (t : Typing) (outside : Environment) (wired : IsWired p) (t
   staged : {lines : List Line} {s : State} (reached : Reaches p outside (boot_state p) lines s) → Follows oracle reached → After (stages reached) lines s
   staged begins follows = (refl, refl)
   staged (moves {lines = lines} {s = s} c before busy choice e) follows =
-      (lines, s, written p s, staged before follows.0, before, inl (record { choice = c; busy = busy; open_so = choice; goes = e; lines = refl; hears = follows.1 }), refl)
-  staged (turns {lines = lines} {s = s} heard before between owed e) follows =
-      (lines, s, written_turn p outside s, staged before follows.0, before, inr (record { heard = heard; between = between; free = owed.name; goes = e; lines = refl; hears = follows.1 }), refl)
+      (lines, s, written p s, staged before follows.0, before, inl (record { choice = c; busy = busy; open_so = choice; goes = e; lines = refl; observes = follows.1 }), refl)
+  staged (turns {lines = lines} {s = s} observed before between owed e) follows =
+      (lines, s, written_turn p outside s, staged before follows.0, before, inr (record { observed = observed; between = between; free = owed.name; goes = e; lines = refl; observes = follows.1 }), refl)
 
   well : (lines : List Line) (s : State) → Reaches p outside (boot_state p) lines s → WellKept p t s
   well lines s r = well_on p t outside wired typed (boot_state p) (boot_keeps p t wired typed, clients_keep.boot p) lines s r
@@ -65,9 +65,9 @@ module _ (p : Image) (t : Typing) (outside : Environment) (wired : IsWired p) (t
   there _ _ begins = all_stays_there.boot p
   there _ _ (moves {lines = lines} {s = s} {u = u} c before busy choice e) = let w = well lines s before in
       all_stays_there.moves p t wired typed c s u w.0 choice.name w.1 (there lines s before) e
-  there _ _ (turns {lines = lines} {s = s} {u = u} heard before between hears e) =
+  there _ _ (turns {lines = lines} {s = s} {u = u} observed before between observes e) =
       let w = well lines s before in
-      all_stays_there.turns p t outside wired typed heard s u w.0 between hears w.1 (there lines s before) e
+      all_stays_there.turns p t outside wired typed observed s u w.0 between observes w.1 (there lines s before) e
 
   -- ---- as many stages
 
@@ -76,23 +76,23 @@ module _ (p : Image) (t : Typing) (outside : Environment) (wired : IsWired p) (t
   goes_alike o o' s u e e' h = subst (λ x. AlikeOutcomes (Goes s) x) e' (subst (λ x. AlikeOutcomes x o') e h)
 
   -- and what is heard in one is heard in the other
-  hears_alike : (n : ℕ) (v w s u : State) (new new' : List Line) → AreAlike v w → (one : Moved n v s new) (other : Moved n w u new') →
-      is_heard p v.tasks ≡ true → one.choice.answer ≡ other.choice.answer
-  hears_alike n v w s u new new' alike one other heard = grind (arith, nat_tests, heard, heard_kept p alike.names v.tasks)
+  observes_alike : (n : ℕ) (v w s u : State) (new new' : List Line) → AreAlike v w → (one : Moved n v s new) (other : Moved n w u new') →
+      is_observed p v.tasks ≡ true → one.choice.answer ≡ other.choice.answer
+  observes_alike n v w s u new new' alike one other observed = grind (arith, nat_tests, observed, observed_kept p alike.names v.tasks)
 
   stage_alike : (n : ℕ) (v w s u : State) (new new' : List Line) → WellKept p t w → AllThere w → AreAlike v w → Stage n v s new → Stage n w u new' →
       (new ≡ new') × AreAlike s u
   stage_alike n v w s u new new' k there alike (inl one) (inl other) = (
     one.lines ∙ writes_alike p v w alike ∙ sym other.lines,
     goes_alike _ _ s u one.goes other.goes (move_alike p t outside.refused one.choice other.choice v w k.0 k.1 there alike one.open_so other.open_so
-        (hears_alike n v w s u new new' alike one other)),
+        (observes_alike n v w s u new new' alike one other)),
   )
   stage_alike n v w s u new new' k there alike (inl one) (inr other) = absurd (grind arith)
   stage_alike n v w s u new new' k there alike (inr one) (inl other) = absurd (grind arith)
   stage_alike n v w s u new new' k there alike (inr one) (inr other) = (
     one.lines ∙ turn_writes_alike p outside v w alike ∙ sym other.lines,
     goes_alike _ _ s u one.goes other.goes
-        (turn_alike p t outside one.heard other.heard v w k.0 k.1 there alike one.free other.free (grind (arith, nat_tests, polling_kept))),
+        (turn_alike p t outside one.observed other.observed v w k.0 k.1 there alike one.free other.free (grind (arith, nat_tests, polling_kept))),
   )
 
   -- nothing in the boot state has a name
@@ -153,12 +153,12 @@ module _ (p : Image) (t : Typing) (outside : Environment) (wired : IsWired p) (t
 
   agree : (lines others : List Line) (s u : State) (one : Reached lines s) (other : Reached others u) → Follows oracle one → Follows oracle other →
       Begins lines others ⊎ Begins others lines
-  agree lines others s u one other hears follows = grind (arith, nat_tests, staged, hears, begins_so, lines, cases_lt)
+  agree lines others s u one other observes follows = grind (arith, nat_tests, staged, observes, begins_so, lines, cases_lt)
 
   whole : (lines others : List Line) (s u : State) (ending : Ending) (one : Run_of p outside lines s ending) (other : Reached others u) →
       Follows oracle one.reaches → Follows oracle other → Begins others lines
-  whole lines others s u ending one other hears follows =
-      let a = staged one.reaches hears in
+  whole lines others s u ending one other observes follows =
+      let a = staged one.reaches observes in
       let b = staged other follows in
       ⊎_elim (λ lt. absurd (never_past (stages one.reaches) (stages other) lines others s u ending one lt a b))
       (λ le. begins_so (stages other) (stages one.reaches) others lines u s le b a) (cases_lt (stages one.reaches) (stages other))
@@ -169,8 +169,8 @@ module _ (p : Image) (t : Typing) (outside : Environment) (wired : IsWired p) (t
 
   ended : (lines others : List Line) (s u : State) (ending last : Ending) (one : Run_of p outside lines s ending) (other : Run_of p outside others u last) →
       Follows oracle one.reaches → Follows oracle other.reaches → (lines ≡ others) × (ending ≡ last) × AreAlike s u
-  ended lines others s u ending last one other hears follows =
-      let a = staged one.reaches hears in
+  ended lines others s u ending last one other observes follows =
+      let a = staged one.reaches observes in
       let b = staged other.reaches follows in
       let e = same_length (stages one.reaches) (stages other.reaches) lines others s u ending last one other a b in
       let same = together (stages one.reaches) lines others s u a (subst (λ n. After n others u) (sym e) b) in

@@ -1,15 +1,15 @@
 -- The laws of what is outstanding at natives.
 use Rattle.std.specs.Prelude.{ℕ, true, false, ◌≡◌, List, None}
 use Rattle.aom_image.specs.Image.{Image}
-use Rattle.aom_rules.specs.Typing.{Typing, IsTyped}
+use Rattle.aom_typing_rules.specs.Typing.{Typing, IsTyped}
 use Rattle.aom_safety.specs.Kept.{ClientsFit}
 use Rattle.aom_safety.specs.Laws.{IsWired}
 use Rattle.aom_semantics.specs.Moves.{step}
 use Rattle.aom_semantics.specs.Places.{Cell, named}
 use Rattle.aom_semantics.specs.State.{State, Choice, Goes}
-use Rattle.aom_semantics.specs.Wanted.{wanted}
+use Rattle.aom_semantics.specs.NativeCall.{wanted}
 use Rattle.aom_safety.specs.WellTyped.{WellTyped}
-use Rattle.aom_semantics.specs.World.{Heard, HearsWell, Environment, Reaches, boot_state, turn, turning}
+use Rattle.aom_semantics.specs.World.{Observed, ObservesWell, Environment, Reaches, boot_state, turn, turning}
 use Rattle.aom_transcript.specs.declared.line.Line.{Line}
 use Rattle.aom_determinism.specs.Owed.{CompletesOwed, FindsWell, SessionsHold, killed_turned, meets, meets_after, meets_turned, owes, owes_after, owes_turned}
 
@@ -31,17 +31,17 @@ abbrev pub MovesFollowCalls : Type 0
 MovesFollowCalls = (p : Image) (t : Typing) (c : Choice) (s u : State) → WellTyped p t s → named s.cells c.name ≡ None → SessionsHold p s → step p c s ≡ Goes u → FollowsCall p c s u
 
 -- a turn changes it where it kills a native, or completes what is outstanding at one; clients change none of it
-pub record FollowsTurn (p : Image) (outside : Environment) (heard : Heard) (s u : State) : Type 0 where
-  pub completes : CompletesOwed p s.cells (turning outside heard s)
-  pub owes : (k m : ℕ) → owes p u.cells k m ≡ owes_turned s.cells (turning outside heard s) k m (owes p s.cells k m)
-  pub meets : (k m : ℕ) → meets p u.cells k m ≡ meets_turned (turning outside heard s) k (meets p s.cells k m)
-  pub killed : u.killed ≡ killed_turned (turning outside heard s) s.killed
+pub record FollowsTurn (p : Image) (outside : Environment) (observed : Observed) (s u : State) : Type 0 where
+  pub completes : CompletesOwed p s.cells (turning outside observed s)
+  pub owes : (k m : ℕ) → owes p u.cells k m ≡ owes_turned s.cells (turning outside observed s) k m (owes p s.cells k m)
+  pub meets : (k m : ℕ) → meets p u.cells k m ≡ meets_turned (turning outside observed s) k (meets p s.cells k m)
+  pub killed : u.killed ≡ killed_turned (turning outside observed s) s.killed
   pub sessions : SessionsHold p u
 
 abbrev pub TurnsKillOrComplete : Type 0
 TurnsKillOrComplete =
-    (p : Image) (t : Typing) (outside : Environment) (heard : Heard) (s u : State) → WellTyped p t s → HearsWell p outside heard s → ClientsFit p s.clients s.cells → SessionsHold p s → turn p outside heard s ≡ Goes u →
-    FollowsTurn p outside heard s u
+    (p : Image) (t : Typing) (outside : Environment) (observed : Observed) (s u : State) → WellTyped p t s → ObservesWell p outside observed s → ClientsFit p s.clients s.cells → SessionsHold p s → turn p outside observed s ≡ Goes u →
+    FollowsTurn p outside observed s u
 
 -- so sessions hold all along a run
 abbrev pub RunsKeepSessions : Type 0

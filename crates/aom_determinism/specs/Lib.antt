@@ -1,6 +1,6 @@
 pub mod Names
 pub mod There
-pub mod Hearing
+pub mod Observing
 pub mod Determined
 pub mod Owed
 pub mod Laws

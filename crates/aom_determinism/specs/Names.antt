@@ -3,8 +3,8 @@ use Rattle.std.specs.Prelude.{ℕ, ◌≡◌, List, map}
 use Rattle.aom_clients.specs.declared.client.Client.{Client}
 use Rattle.aom_clients.specs.declared.client.Client.TheVariants.{Unconnected, Connecting, Open, Closing as Closing_client, Gone, Dead, Dying}
 use Rattle.aom_semantics.specs.Places.{Place, Register, Entry, Field, Going, Elsewhere, Other, Root, Session, In_service, Queued, Object, Asked, Connect_of, Message_of, Close_of, Service, Cell}
-use Rattle.aom_semantics.specs.State.{Home, Static, AtRoot, Inside, Frame, Seat, Stage, Accepts, Accepted, Accept_left, Serves, Service_left, Parts, Dispatch, Of_main, Main_left, Of_root, Of_object, Object_left, Asks, Answered, Of_server, Task, Run, Trapped, Destroy, Closing, Unwind, Dispatched, State, Choice, Outcome, Goes, IsStuck}
-use Rattle.aom_semantics.specs.World.{Heard}
+use Rattle.aom_semantics.specs.State.{Receiver, Static, AtRoot, Inside, Frame, OwnedObject, Stage, Accepts, Accepted, Accept_left, Serves, Service_left, Disconnects, Dispatch, Of_main, Main_left, Of_root, Of_object, Object_left, Asks, Answered, Of_server, Task, Run, Trapped, Destroy, Closing, Unwind, Dispatched, State, Choice, Outcome, Goes, IsStuck}
+use Rattle.aom_semantics.specs.World.{Observed}
 
 -- two names stay two
 abbrev pub IsOneToOne : (ℕ → ℕ) → Type 0
@@ -47,17 +47,17 @@ module _ (names : ℕ → ℕ) where
   abbrev pub renamed_cells : List Cell → List Cell
   renamed_cells cs = map renamed_cell cs
 
-  abbrev pub renamed_home : Home → Home
-  renamed_home Static = Static
-  renamed_home AtRoot = AtRoot
-  renamed_home (Inside o from) = Inside (renamed_object o) (renamed_place from)
+  abbrev pub renamed_receiver : Receiver → Receiver
+  renamed_receiver Static = Static
+  renamed_receiver AtRoot = AtRoot
+  renamed_receiver (Inside o from) = Inside (renamed_object o) (renamed_place from)
 
   abbrev pub renamed_frame : Frame → Frame
-  renamed_frame fr = record fr { home = renamed_home fr.home }
+  renamed_frame fr = record fr { receiver = renamed_receiver fr.receiver }
 
   -- the object and the place that owns it
-  abbrev pub renamed_seat : Seat → Seat
-  renamed_seat x = record { object = renamed_object x.object; place = renamed_place x.place }
+  abbrev pub renamed_owned_object : OwnedObject → OwnedObject
+  renamed_owned_object x = record { object = renamed_object x.object; place = renamed_place x.place }
 
   -- the session that serves
   abbrev pub renamed_stage : Stage → Stage
@@ -66,18 +66,18 @@ module _ (names : ℕ → ℕ) where
   renamed_stage (Accept_left code) = Accept_left code
   renamed_stage (Serves o) = Serves (renamed_object o)
   renamed_stage (Service_left code) = Service_left code
-  renamed_stage Parts = Parts
+  renamed_stage Disconnects = Disconnects
 
   -- a dispatch of main has no seat
   abbrev pub renamed_dispatch : Dispatch → Dispatch
   renamed_dispatch Of_main = Of_main
   renamed_dispatch (Main_left code) = Main_left code
   renamed_dispatch Of_root = Of_root
-  renamed_dispatch (Of_object x) = Of_object (renamed_seat x)
-  renamed_dispatch (Object_left x code) = Object_left (renamed_seat x) code
-  renamed_dispatch (Asks x) = Asks (renamed_seat x)
-  renamed_dispatch (Answered x answer) = Answered (renamed_seat x) answer
-  renamed_dispatch (Of_server x client stage) = Of_server (renamed_seat x) client (renamed_stage stage)
+  renamed_dispatch (Of_object x) = Of_object (renamed_owned_object x)
+  renamed_dispatch (Object_left x code) = Object_left (renamed_owned_object x) code
+  renamed_dispatch (Asks x) = Asks (renamed_owned_object x)
+  renamed_dispatch (Answered x answer) = Answered (renamed_owned_object x) answer
+  renamed_dispatch (Of_server x client stage) = Of_server (renamed_owned_object x) client (renamed_stage stage)
 
   abbrev pub renamed_task : Task → Task
   renamed_task (Run fr) = Run (renamed_frame fr)
@@ -111,8 +111,8 @@ module _ (names : ℕ → ℕ) where
   renamed_choice c = record c { name = names c.name }
 
   -- what a native completes is told by the place in the list of cells
-  abbrev pub renamed_heard : Heard → Heard
-  renamed_heard heard = record heard { name = names heard.name }
+  abbrev pub renamed_observed : Observed → Observed
+  renamed_observed observed = record observed { name = names observed.name }
 
   abbrev pub renamed_outcome : Outcome → Outcome
   renamed_outcome (Goes s) = Goes (renamed s)

@@ -4,7 +4,7 @@ use Rattle.aom_image.specs.Image.{Image}
 use Rattle.aom_semantics.specs.Natives.{is_dead, is_owed, is_served_by}
 use Rattle.aom_semantics.specs.Places.{Cell, Object, in_session, named, requested}
 use Rattle.aom_semantics.specs.State.{State}
-use Rattle.aom_semantics.specs.Wanted.{Wanted, Opens, Starts, Asks, Cancels, Closes}
+use Rattle.aom_semantics.specs.NativeCall.{NativeCall, Opens, Starts, Asks, Cancels, Closes}
 use Rattle.aom_semantics.specs.World.{Kills, Polls, Turning, cell_at}
 
 -- ---- cells and their natives
@@ -40,7 +40,7 @@ pub record Finds (p : Image) (s : State) (native name : ℕ) (session outstandin
   pub owes : owes p s.cells native name ≡ outstanding
 
 -- a session is opened where none is, and all else is asked in an open one: a request is begun where none is outstanding and cancelled where one is, and a session is closed with nothing outstanding
-abbrev pub FindsWell : Image → State → Option Wanted → Type 0
+abbrev pub FindsWell : Image → State → Option NativeCall → Type 0
 FindsWell p s None = Unit {0}
 FindsWell p s (Some (Opens n x)) = Finds p s n x false false
 FindsWell p s (Some (Starts n x f w)) = Finds p s n x true false
@@ -57,7 +57,7 @@ abbrev pub is_for : (n x k m : ℕ) → Bool
 is_for n x k m = (n == k) && (x == m)
 
 -- whether cell m owes at native k after a call with that answer, by whether it did before
-abbrev pub owes_after : Option Wanted → ℤ → (k m : ℕ) → Bool → Bool
+abbrev pub owes_after : Option NativeCall → ℤ → (k m : ℕ) → Bool → Bool
 owes_after None answer k m before = before
 owes_after (Some (Opens n x)) answer k m before = before
 owes_after (Some (Starts n x f w)) answer k m before = (takes_on answer && is_for n x k m) || before
@@ -66,7 +66,7 @@ owes_after (Some (Cancels n x)) answer k m before = not (is_for n x k m) && befo
 owes_after (Some (Closes n x)) answer k m before = before
 
 -- whether its session is open there
-abbrev pub meets_after : Option Wanted → ℤ → (k m : ℕ) → Bool → Bool
+abbrev pub meets_after : Option NativeCall → ℤ → (k m : ℕ) → Bool → Bool
 meets_after None answer k m before = before
 meets_after (Some (Opens n x)) answer k m before = (takes_on answer && is_for n x k m) || before
 meets_after (Some (Starts n x f w)) answer k m before = before

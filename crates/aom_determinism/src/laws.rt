@@ -1,5 +1,5 @@
 //! The laws, each as the contract of a function that does nothing.
-ghost use Rattle.aom_determinism.specs.Determined.{AllStaysThere, EachRunFollows, MovesStayAlike, NamesMeanNothing, NothingIsHeard, TextIsDetermined, TurnsStayAlike};
+ghost use Rattle.aom_determinism.specs.Determined.{AllStaysThere, EachRunFollows, MovesStayAlike, NamesMeanNothing, NothingIsObserved, TextIsDetermined, TurnsStayAlike};
 ghost use Rattle.aom_determinism.specs.Laws.{BootOwesNothing, MovesFollowCalls, TurnsKillOrComplete, RunsKeepSessions, OwesAtOne};
 ghost use Rattle.aom_determinism.specs.Endings.{DispatchesAreSpent, RunsCanEnd};
 
@@ -34,8 +34,8 @@ pub fn each_run_follows()
 {}
 
 /// Where no native serves a class of the image, all its runs hear the same of natives.
-pub fn nothing_is_heard()
-    ensures { NothingIsHeard }
+pub fn nothing_is_observed()
+    ensures { NothingIsObserved }
 {}
 
 /// As a run begins nothing is outstanding.

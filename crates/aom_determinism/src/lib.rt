@@ -22,6 +22,6 @@ mod laws;
 
 pub use laws::{
     all_stays_there, boot_owes_nothing, dispatches_are_spent, each_run_follows, moves_follow_calls,
-    moves_stay_alike, names_mean_nothing, nothing_is_heard, owes_at_one, runs_can_end,
+    moves_stay_alike, names_mean_nothing, nothing_is_observed, owes_at_one, runs_can_end,
     runs_keep_sessions, text_is_determined, turns_kill_or_complete, turns_stay_alike,
 };

@@ -39,7 +39,7 @@ pub enum Stage {
     Serves(Subject),
     ServiceLeft(i32),
     /// Of a close: the session goes, or is gone.
-    Parts,
+    Disconnects,
 }
 
 /// What a dispatch is of.

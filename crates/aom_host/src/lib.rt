@@ -7,6 +7,6 @@ mod files;
 mod input;
 mod output;
 
-pub use files::{Unready, read_file};
+pub use files::{ReadError, read_file};
 pub use input::Input;
 pub use output::Output;

@@ -2,11 +2,11 @@
 use Rattle.std.proofs.Common.{◌≡◌, ℕ, length, arith, ◌↔◌, IsTrue, leb}
 use Rattle.std.proofs.lemmas.Bool.{leb-true, le-leb}
 use Rattle.aom_image.specs.Image.{Image}
-use Rattle.aom_image.specs.WellFormed.{HeaderFits, ClassesFit, MethodsFit, FamiliesFit, WellFormed, spelled_size}
+use Rattle.aom_image.specs.WellFormed.{HeaderFits, ClassesFit, MethodsFit, FamiliesFit, WellFormed, serialized_size}
 
 pub length_decides : (i : Image) → HeaderFits (length i.classes) i.header → ClassesFit i.header.version i.header.natives i.classes →
     MethodsFit i.header.version (length i.classes) i.methods → FamiliesFit i.header.version i.classes i.methods → (n : ℕ) →
-    n ≡ spelled_size i.header.version (length i.classes) i.methods → IsTrue (leb n 1048576) ↔ WellFormed i
+    n ≡ serialized_size i.header.version (length i.classes) i.methods → IsTrue (leb n 1048576) ↔ WellFormed i
 length_decides i header classes methods families n is =
     let fits : IsTrue (leb n 1048576) → WellFormed i = λ short.
     record { header = header; classes = classes; methods = methods; families = families; size = omega (arith, leb-true n 1048576 short) } in

@@ -121,7 +121,7 @@ OverFits version methods (Some m) = (has_families version ≡ true) × (m < meth
 -- the parents of the classes, and what the methods override
 pub record FamiliesFit (version : Version) (classes : List ClassDecl) (methods : List Method) : Type 0 where
   pub parents : All (λ c. ParentFits version (length classes) c.kind c.parent) classes
-  pub overs : All (λ m. OverFits version (length methods) m.over) methods
+  pub overridden_methods : All (λ m. OverFits version (length methods) m.over) methods
 
 -- ---- the whole
 
@@ -146,8 +146,8 @@ pub record MethodsFit (version : Version) (classes : ℕ) (methods : List Method
   pub each : All (MethodFits version classes (length methods)) methods
 
 -- how many bytes so many classes and these methods take: 24 for the header, 28 a class, 24 a method and 8 an instruction, and what tells of families
-abbrev pub spelled_size : Version → ℕ → List Method → ℕ
-spelled_size version classes methods = 24 + (28 + family_bytes version) * classes + sum_by (λ m. 24 + family_bytes version + 8 * length m.code) methods
+abbrev pub serialized_size : Version → ℕ → List Method → ℕ
+serialized_size version classes methods = 24 + (28 + family_bytes version) * classes + sum_by (λ m. 24 + family_bytes version + 8 * length m.code) methods
 
 -- an image with every field in its range
 pub record WellFormed (i : Image) : Type 0 where
@@ -155,4 +155,4 @@ pub record WellFormed (i : Image) : Type 0 where
   pub classes : ClassesFit i.header.version i.header.natives i.classes
   pub methods : MethodsFit i.header.version (length i.classes) i.methods
   pub families : FamiliesFit i.header.version i.classes i.methods
-  pub size : spelled_size i.header.version (length i.classes) i.methods ≤ 2 ^ 20
+  pub size : serialized_size i.header.version (length i.classes) i.methods ≤ 2 ^ 20

@@ -1,6 +1,6 @@
 //! Whether parts make a well-formed image.
 ghost use Rattle.std.specs.Prelude.{◌≡◌, ◌<◌, ◌≤◌, ◌↔◌, IsTrue, IfSome, All, length, count_by, ◌+◌, ◌*◌, ◌^◌, sum_by, codes};
-ghost use Rattle.aom_image.specs.WellFormed.{ThingFits, ProviderFits, KindFits, ClassFits, ClassesFit, MethodsFit, ArgumentFits, GivesFits, MethodFits, HeaderFits, ParentFits, OverFits, FamiliesFit, WellFormed, is_server, spelled_size};
+ghost use Rattle.aom_image.specs.WellFormed.{ThingFits, ProviderFits, KindFits, ClassFits, ClassesFit, MethodsFit, ArgumentFits, GivesFits, MethodFits, HeaderFits, ParentFits, OverFits, FamiliesFit, WellFormed, is_server, serialized_size};
 ghost use Rattle.aom_instructions.specs.Fits.{InstrFits};
 
 use crate::{
@@ -156,11 +156,11 @@ fn header_ok(header: &Header, classes: usize) -> bool
 }
 
 /// How many bytes spell so many classes and these methods.
-pub fn spelled_len(version: Version, classes: usize, methods: &[Method]) -> usize
+pub fn serialized_len(version: Version, classes: usize, methods: &[Method]) -> usize
     requires few { classes ≤ 256 }
     requires fits { All (λ m. length m.code ≤ 1024) methods.now }
     requires some { length methods.now ≤ 1024 }
-    ensures { result ≡ spelled_size version classes methods.now }
+    ensures { result ≡ serialized_size version classes methods.now }
 {
     let more = version.family_bytes();
     let mut len = 24 + (28 + more) * classes;
@@ -221,7 +221,7 @@ fn parents_fit(classes: &[ClassDecl], version: Version, count: usize) -> bool
     classes.iter().all(|class| parent_fits(class.parent, version, class.kind, count))
 }
 
-fn overs_fit(methods: &[Method], version: Version, count: usize) -> bool
+fn overridden_methods_fit(methods: &[Method], version: Version, count: usize) -> bool
     ensures { IsTrue result ↔ All (λ m. OverFits version count m.over) methods.now }
 {
     methods
@@ -232,7 +232,8 @@ fn overs_fit(methods: &[Method], version: Version, count: usize) -> bool
 fn families_ok(version: Version, classes: &[ClassDecl], methods: &[Method]) -> bool
     ensures { IsTrue result ↔ FamiliesFit version classes.now methods.now }
 {
-    parents_fit(classes, version, classes.len()) && overs_fit(methods, version, methods.len())
+    parents_fit(classes, version, classes.len())
+        && overridden_methods_fit(methods, version, methods.len())
 }
 
 /// Whether these are the parts of a well-formed image.
@@ -247,5 +248,5 @@ pub fn form_ok(header: &Header, classes: &[ClassDecl], methods: &[Method]) -> bo
     {
         return false;
     }
-    spelled_len(version, classes.len(), methods) <= 1 << 20
+    serialized_len(version, classes.len(), methods) <= 1 << 20
 }

@@ -13,7 +13,7 @@ pub use aom_instructions::{
     SmallKind, Target, Version, WordIndex, instructions_and_rows,
 };
 pub use class::{ClassDecl, ClassKind, Provider};
-pub use form::{form_ok, spelled_len};
+pub use form::{form_ok, serialized_len};
 pub use image::{Header, Image};
 pub use items::Items;
 pub use method::{Argument, Gives, Method, MethodFlags, Role, States, Thing};

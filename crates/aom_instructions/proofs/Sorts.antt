@@ -3,7 +3,7 @@ use Rattle.std.proofs.Common.{◌≡◌, ◌<◌, ℕ, arith}
 use Rattle.aom_instructions.specs.Fits.{InstrFits}
 use Rattle.aom_instructions.specs.Table.{action_of, transfer_of}
 use Rattle.aom_instructions.specs.declared.action.Action.TheVariants as action
-use Rattle.aom_instructions.specs.declared.action.Manner.TheVariants.{Plain, Trapped}
+use Rattle.aom_instructions.specs.declared.action.CallMode.TheVariants.{Plain, Trapped}
 use Rattle.aom_instructions.specs.declared.instr.Instr.{Instr}
 use Rattle.aom_instructions.specs.declared.instr.Instr.TheVariants as instr
 use Rattle.aom_instructions.specs.declared.instr.Target.{Target}

@@ -3,7 +3,7 @@ use crate::{ClassNumber, MethodNumber, Register, Target};
 
 /// How a method is called.
 #[derive(Clone, Copy)]
-pub enum Manner {
+pub enum CallMode {
     Plain,
     /// Under a trap, which catches what it leaves with.
     Trapped,
@@ -22,7 +22,7 @@ pub enum Action {
     /// The method is pushed, with the word of the register as its argument.
     PushOperation(Register, MethodNumber),
     /// The method is called on the target, with arguments from the first register on; its result comes to the second.
-    Call(Manner, Target, MethodNumber, Register, Register),
+    Call(CallMode, Target, MethodNumber, Register, Register),
     /// The request of the method's object is cancelled.
     Cancel,
 }

@@ -17,7 +17,7 @@ mod operands;
 mod transfer;
 mod version;
 
-pub use action::{Action, Manner};
+pub use action::{Action, CallMode};
 pub use instr::{Instr, Target};
 pub use kinds::{Kinds, LargeKind, OperandOrder, SmallKind};
 pub use laws::{instructions_and_rows, sorts_name_operands};

@@ -10,7 +10,7 @@ ghost use Rattle.aom_instructions.specs.Mnemonics.{is_in, mnemonic_of, mnemonic_
 use crate::LargeKind::{Class, Method, Nothing, Number, Place, Rounds};
 use crate::SmallKind::{CallTarget, Depth, Field, Register, TrapResult, Unused, Word};
 use crate::{
-    Action, Condition, Instr, Kinds, Large, LargeKind, Manner, OperandOrder, Operands, Small,
+    Action, CallMode, Condition, Instr, Kinds, Large, LargeKind, OperandOrder, Operands, Small,
     SmallKind, Transfer, Version,
 };
 use std::marker::Model;
@@ -577,10 +577,10 @@ impl Instr {
             Instr::Push(register) => Action::Push(register),
             Instr::PushOperation(word, method) => Action::PushOperation(word, method),
             Instr::Call(target, method, first, result) => {
-                Action::Call(Manner::Plain, target, method, first, result)
+                Action::Call(CallMode::Plain, target, method, first, result)
             }
             Instr::Trap(target, method, first, result) => {
-                Action::Call(Manner::Trapped, target, method, first, result)
+                Action::Call(CallMode::Trapped, target, method, first, result)
             }
             Instr::Cancel => Action::Cancel,
             _ => Action::Nothing,

@@ -1,9 +1,9 @@
 //! The debugger: a machine that goes on by commands, and what it tells.
 
 pub use aom_debug::{
-    Awaited, Debugger, Holding, Look, Mover, Owner, Reader, SourceNames, tell_place,
+    Awaited, Debugger, Holding, Inspection, Owner, Reader, Runner, SourceNames, report_place,
 };
-pub use aom_debug_words::{
-    Answer, AnswerLine, Branch, Breakpoints, ClientNumber, Command, Content, DebugFault, Outer,
-    Path, Pending, Phase, Recent, Source, Spot, help_text, line_of, read_command,
+pub use aom_debug_protocol::{
+    Answer, AnswerLine, Branch, Breakpoints, ClientNumber, CodeLocation, Command, Content,
+    DebugFault, History, Outer, Path, Pending, Phase, Source, help_text, line_of, read_command,
 };

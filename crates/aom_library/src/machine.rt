@@ -3,4 +3,4 @@
 pub use aom_machine::Progress;
 pub use aom_machine_state::LineBuffer;
 pub use aom_natives::BootFault;
-pub use aom_run::Machine;
+pub use aom_run::HostedMachine;

@@ -1,3 +1,3 @@
 //! The requests of active objects, and their signals.
 
-pub use aom_scheduler::{PENDING, Requests, State};
+pub use aom_scheduler::{PENDING, RequestState, Requests};

@@ -1,7 +1,7 @@
 mod debugging;
 mod faults;
-mod lining;
 mod linking;
 mod listing;
+mod memory_sink;
+mod one_line;
 mod running;
-mod slate;

@@ -8,14 +8,14 @@ use Rattle.aom_image.specs.declared.class.ClassDecl.{ClassDecl}
 use Rattle.aom_image.specs.declared.class.ClassKind.{ClassKind}
 use Rattle.aom_image.specs.declared.class.ClassKind.TheVariants.{Active, Server}
 use Rattle.aom_image.specs.declared.method.Role.TheVariants.{Accept, Error, Run as Handles, Service}
-use Rattle.aom_classes.specs.Roles.{role_of}
+use Rattle.aom_link_conditions.specs.Roles.{role_of}
 use Rattle.aom_roles.specs.Classes.{kind_in}
 use Rattle.aom_roles.specs.Shapes.{kind_of}
-use Rattle.aom_typings.specs.Costs.{destructor_price}
-use Rattle.aom_typings.specs.Prices.{Prices, perhaps_price}
+use Rattle.aom_static_bounds.specs.Costs.{destructor_price}
+use Rattle.aom_static_bounds.specs.Prices.{Prices, perhaps_price}
 use Rattle.aom_budget.specs.Budgets.{CostsWithin, class_declares, class_price, kind_price}
-use Rattle.aom_budget.specs.declared.fault.Payer.TheVariants.{Class}
-use Rattle.aom_progress.specs.Payers.{AffordsObjects, class_budget, dispatch_price}
+use Rattle.aom_budget.specs.declared.fault.BudgetOwner.TheVariants.{Class}
+use Rattle.aom_termination.specs.BudgetOwners.{AffordsObjects, class_budget, dispatch_price}
 
 -- the price of a method that may not be there
 same_price : (c : Prices) (m : Option ℕ) → perhaps_price c m ≡ destructor_price c m

@@ -7,28 +7,28 @@ use Rattle.std.proofs.lemmas.Bool.{eq-eqb, eqb-true, ne_eqb}
 use Rattle.std.specs.Prelude.{is_some}
 use Rattle.aom_image.specs.Image.{Image}
 use Rattle.aom_image.specs.declared.method.Thing.{Thing}
-use Rattle.aom_shape.specs.Kinds.{field, filled}
-use Rattle.aom_shape.specs.Shape.{Shape}
+use Rattle.aom_abstract_state.specs.Kinds.{field, filled}
+use Rattle.aom_abstract_state.specs.AbstractState.{AbstractState}
 use Rattle.aom_roles.specs.Things.{Program, field_thing, holder_of}
-use Rattle.aom_rules.specs.Typing.{Typing, shape_at}
-use Rattle.aom_shape.specs.declared.kind.CleanupEntry.{CleanupEntry}
-use Rattle.aom_shape.specs.declared.kind.Filling.{Filling}
-use Rattle.aom_shape.specs.declared.kind.Filling.TheVariants.{Empty, Perhaps}
-use Rattle.aom_shape.specs.declared.kind.Kind.{Kind}
-use Rattle.aom_shape.specs.declared.kind.Kind.TheVariants.{Null, Own}
-use Rattle.aom_machine.proofs.SafetyLemmas.{claim_field, houses_field, length_forms, method_layer}
+use Rattle.aom_typing_rules.specs.Typing.{Typing, shape_at}
+use Rattle.aom_abstract_state.specs.declared.kind.CleanupEntry.{CleanupEntry}
+use Rattle.aom_abstract_state.specs.declared.kind.FieldState.{FieldState}
+use Rattle.aom_abstract_state.specs.declared.kind.FieldState.TheVariants.{Empty, Perhaps}
+use Rattle.aom_abstract_state.specs.declared.kind.Kind.{Kind}
+use Rattle.aom_abstract_state.specs.declared.kind.Kind.TheVariants.{Null, Own}
+use Rattle.aom_machine.proofs.SafetyLemmas.{claim_field, receiver_conforms_field, length_forms, method_layer}
 use Rattle.aom_machine.proofs.SemanticsLemmas.{held_lives, one_place}
 use Rattle.aom_safety.specs.Claims.{Dispatching, Dying, Ending, Layer, Mark, Mark_form, Method, Object_form, Unwinding, claim}
-use Rattle.aom_safety.specs.Claims.{declared, declared_field, entry_claim, forms, home_claim, items_of, objects, own_field}
+use Rattle.aom_safety.specs.Claims.{declared, declared_field, entry_claim, forms, receiver_claim, items_of, objects, own_field}
 use Rattle.aom_semantics.specs.Owned.{over}
-use Rattle.aom_semantics.specs.Places.{Cell, Elsewhere, Entry, Field, Object, Place, Register, Root, Sight, held, named, seen}
-use Rattle.aom_semantics.specs.State.{An_object, AtRoot, Frame, Home, Inside, Item, Run, State}
-use Rattle.aom_semantics.specs.State.{Static, Task, field_place, home_holder, thing_holder, word}
-use Rattle.aom_safety.specs.WellTyped.{Back, Caught, Fits, Gone, Houses, IsHoused, Leaves, Now, Returns, Stack, Good}
+use Rattle.aom_semantics.specs.Places.{Cell, Elsewhere, Entry, Field, Object, Place, Register, Root, CellView, held, named, seen}
+use Rattle.aom_semantics.specs.State.{An_object, AtRoot, Frame, Receiver, Inside, Item, Run, State}
+use Rattle.aom_semantics.specs.State.{Static, Task, field_place, receiver_holder, thing_holder, word}
+use Rattle.aom_safety.specs.WellTyped.{Back, Caught, Fits, Gone, ReceiverConforms, ReceiverIsHeld, Leaves, Now, Returns, Stack, Good}
 use Rattle.aom_machine.specs.Agreement.{Agreement, AgreesInAll, FieldsAgree, NumberSays, RegistersAgree}
 use Rattle.aom_machine_state.specs.Agrees.{Represents, number, word_at, word_in}
 use Rattle.aom_machine_state.specs.Places.{value}
-use Rattle.aom_machine_state.specs.Stands.{Machine, StandsFor}
+use Rattle.aom_machine_state.specs.Stands.{MachineModel, Refines}
 use Rattle.aom_machine_state.specs.Waits.{AllWait, KindSays, OthersWait, Waits}
 use Rattle.aom_machine.proofs.MachineInstructionsLemmas.{null_unnamed}
 use Rattle.aom_machine.proofs.Waiting.{runs_typed}
@@ -56,16 +56,16 @@ word_under (task ∷ above) fr below i = grind (arith, nat_tests, deeper above f
 -- ---- fields, the root and entries
 
 -- what a field is declared to be says no more than what is known of it
-declared_says : (p : Image) (h : Sight) (thing : Option Thing) (x : Filling) (n : ℕ) (o : Option Object) → n ≡ number o → Fits p h o (filled thing x)
+declared_says : (p : Image) (h : CellView) (thing : Option Thing) (x : FieldState) (n : ℕ) (o : Option Object) → n ≡ number o → Fits p h o (filled thing x)
     → NumberSays p (filled thing Perhaps) n o
 declared_says p h y x n z same fits = grind arith
 
 -- and what is known of it says so
-filled_says : (p : Image) (h : Sight) (t : Thing) (x : Filling) (n : ℕ) (o : Option Object) → n ≡ number o → Fits p h o (filled (Some t) x) →
+filled_says : (p : Image) (h : CellView) (t : Thing) (x : FieldState) (n : ℕ) (o : Option Object) → n ≡ number o → Fits p h o (filled (Some t) x) →
     NumberSays p (filled (Some t) x) n o
 filled_says p h t x n y same fits = grind arith
 
-empty_fits : (p : Image) (h : Sight) (thing : Option Thing) (o : Option Object) → Fits p h o Null → Fits p h o (filled thing Empty)
+empty_fits : (p : Image) (h : CellView) (thing : Option Thing) (o : Option Object) → Fits p h o Null → Fits p h o (filled thing Empty)
 empty_fits p h x o fits = grind arith
 
 module _ (p : Image) (t : Typing) (cs : List Cell) (n : ℕ) (o : Option Object) (same : n ≡ number o) where
@@ -82,25 +82,25 @@ module _ (p : Image) (t : Typing) (cs : List Cell) (n : ℕ) (o : Option Object)
       F (claim p (declared p cs) ls (Field x.name f)) → Declared x f
   field_says x f lives [] back st fits =
       declared_says p (seen cs) (field_thing p (thing_holder x.thing) f) Perhaps n o same (subst (λ y. F (declared_field p y f)) lives fits)
-  field_says x f lives (Method fr sh ∷ ls) back st fits = go fr.home st.1.holder st.2 (field_says x f lives ls (Returns fr.method fr.home) st.4) fits
+  field_says x f lives (Method fr sh ∷ ls) back st fits = go fr.receiver st.1.holder st.2 (field_says x f lives ls (Returns fr.method fr.receiver) st.4) fits
     where
-      go : (home : Home) → Houses p (home_holder home) (holder_of p fr.method) → IsHoused p cs ls home → (F (claim p (declared p cs) ls (Field x.name f)) →
-          Declared x f) → F (home_claim p (holder_of p fr.method) home sh x.name f (claim p (declared p cs) ls (Field x.name f))) → Declared x f
-      go Static houses housed below fits = below fits
-      go AtRoot houses housed below fits = below fits
-      go (Inside y from) houses housed below fits = inside (y.name == x.name) refl (field_thing p (holder_of p fr.method) f) refl fits
+      go : (receiver : Receiver) → ReceiverConforms p (receiver_holder receiver) (holder_of p fr.method) → ReceiverIsHeld p cs ls receiver → (F (claim p (declared p cs) ls (Field x.name f)) →
+          Declared x f) → F (receiver_claim p (holder_of p fr.method) receiver sh x.name f (claim p (declared p cs) ls (Field x.name f))) → Declared x f
+      go Static receiver_conforms receiver_held below fits = below fits
+      go AtRoot receiver_conforms receiver_held below fits = below fits
+      go (Inside y from) receiver_conforms receiver_held below fits = inside (y.name == x.name) refl (field_thing p (holder_of p fr.method) f) refl fits
         where
           inside : (b : Bool) → (y.name == x.name) ≡ b → (own : Option Thing) → field_thing p (holder_of p fr.method) f ≡ own →
               F (cond b (own_field own (field sh f) (claim p (declared p cs) ls (Field x.name f))) (claim p (declared p cs) ls (Field x.name f))) → Declared x f
           inside true e None is fits = below fits
           inside true e (Some z) is fits =
-              let alike : y ≡ x = same_Some y x (sym housed.lives ∙ ap (λ k. named cs k) (eqb-true y.name x.name e) ∙ lives) in
+              let alike : y ≡ x = same_Some y x (sym receiver_held.lives ∙ ap (λ k. named cs k) (eqb-true y.name x.name e) ∙ lives) in
               declared_says p (seen cs) (field_thing p (thing_holder x.thing) f) (field sh f) n o same (subst (λ (z : Object). F
-              (filled (field_thing p (thing_holder z.thing) f) (field sh f))) alike (subst (λ k. F (filled k (field sh f))) (sym (houses.fields f z is)) fits))
+              (filled (field_thing p (thing_holder z.thing) f) (field sh f))) alike (subst (λ k. F (filled k (field sh f))) (sym (receiver_conforms.fields f z is)) fits))
           inside false e own is fits = below fits
   field_says x f lives (Mark gv ∷ ls) back st fits = field_says x f lives ls (Caught gv) st.1 fits
   field_says x f lives (Unwinding code es ∷ ls) back st fits = field_says x f lives ls Leaves st.1 fits
-  field_says x f lives (Dispatching d seats ∷ ls) back st fits = grind (arith, nat_tests, declared_says p)
+  field_says x f lives (Dispatching d owned_chain ∷ ls) back st fits = grind (arith, nat_tests, declared_says p)
   field_says x f lives (Dying y ∷ ls) back st fits = grind (arith, nat_tests, field_says x f lives ls Gone st.2, declared_says p, empty_fits p)
   field_says x f lives (Ending y left ∷ ls) back st fits =
       grind (arith, nat_tests, field_says x f lives ls Now st.3, same_Some y x, eqb-true y.name x.name, declared_says p)
@@ -108,7 +108,7 @@ module _ (p : Image) (t : Typing) (cs : List Cell) (n : ℕ) (o : Option Object)
   root_says : (ls : List Layer) → F (claim p (declared p cs) ls (Elsewhere Root)) → RootDeclared
   root_says [] fits = declared_says p (seen cs) (field_thing p Program 0) Perhaps n o same fits
   root_says (Method fr sh ∷ ls) fits = grind (arith, nat_tests, root_says ls, declared_says p)
-  root_says (Dispatching d seats ∷ ls) fits = grind (arith, nat_tests, root_says ls, declared_says p, empty_fits p)
+  root_says (Dispatching d owned_chain ∷ ls) fits = grind (arith, nat_tests, root_says ls, declared_says p, empty_fits p)
   root_says (_ ∷ ls) fits = root_says ls fits
 
 -- an object's item is claimed to own
@@ -116,7 +116,7 @@ abbrev IsOwn : Kind → Type 0
 IsOwn (Own t a) = Unit {0}
 IsOwn _ = ⊥
 
-owns_one : (p : Image) (h : Sight) (k : Kind) (o : Option Object) → IsOwn k → Fits p h o k → (x : Object) × (o ≡ Some x)
+owns_one : (p : Image) (h : CellView) (k : Kind) (o : Option Object) → IsOwn k → Fits p h o k → (x : Object) × (o ≡ Some x)
 owns_one p h x y own fits = grind arith
 
 over_forms : (items : List Item) (k : ℕ) → over items k ≡ Some An_object → over (forms items) k ≡ Some Object_form
@@ -142,7 +142,7 @@ module _ (p : Image) (d : Place → Kind) (k : ℕ) where
 
 -- ---- all together
 
-module _ (m : Machine) (s : State) (st : StandsFor m s) where
+module _ (m : MachineModel) (s : State) (st : Refines m s) where
   abbrev p : Image
   p = m.image
 
@@ -159,7 +159,7 @@ module _ (m : Machine) (s : State) (st : StandsFor m s) where
     where
       go : (o : Option Object) → held s.cells r ≡ o → x.name ≡ number o → o ≡ Some x
       go None holds e = let nobody = null_unnamed p m.parts s st.agrees in let clash : Some x ≡ None = sym lives ∙ ap (λ n. named s.cells n) e ∙ nobody in cc
-      go (Some y) holds e = sym (held_lives s.cells r y st.typed.good.tidy holds) ∙ ap (λ n. named s.cells n) (sym e) ∙ lives
+      go (Some y) holds e = sym (held_lives s.cells r y st.typed.good.no_duplicates holds) ∙ ap (λ n. named s.cells n) (sym e) ∙ lives
 
   shown : (above : List Task) (fr : Frame) (below : List Task) → s.tasks ≡ above ++ Run fr ∷ below → (i : ℕ)
       → Represents (value m.parts (Register (length below) i)) (word fr i) (held s.cells (Register (length below) i))
@@ -178,21 +178,21 @@ module _ (m : Machine) (s : State) (st : StandsFor m s) where
   own_fields_agree fr below top = method_layer (λ ls. Good p st.typing s.cells ls) fr below st.typed.layers
       (sym st.typed.tasks ∙ top) st.typed.good (λ sh ls _ good. (by_frame fr sh ls good.stack.0 good))
     where
-      no_word_there : (home : Home) (f : ℕ) → word_at s.tasks (field_place home f) ≡ None
+      no_word_there : (receiver : Receiver) (f : ℕ) → word_at s.tasks (field_place receiver f) ≡ None
       no_word_there Static f = refl
       no_word_there AtRoot f = refl
       no_word_there (Inside o from) f = refl
 
-      by_frame : (g : Frame) (sh : Shape) (ls : List Layer) → shape_at st.typing g.method g.place ≡ Some sh → Good p st.typing s.cells (Method g sh ∷ ls) →
+      by_frame : (g : Frame) (sh : AbstractState) (ls : List Layer) → shape_at st.typing g.method g.place ≡ Some sh → Good p st.typing s.cells (Method g sh ∷ ls) →
           FieldsAgree p st.typing m.parts s g
       by_frame g sh ls there good = record {
         shape = sh;
         typed = there;
         fields = λ f thing declares.
-            let q = field_place g.home f in
-            let own = houses_field p _ _ f good.stack.1.holder (ap is_some declares) ∙ declares in
-            let claims = claim_field p (declared p s.cells) g sh ls g.home f refl (own ∙ sym declares) (ap is_some own) ∙ ap (λ x. filled x (field sh f)) own in
-            filled_says p (seen s.cells) thing (field sh f) (value m.parts q) (held s.cells q) (plain q (no_word_there g.home f))
+            let q = field_place g.receiver f in
+            let own = receiver_conforms_field p _ _ f good.stack.1.holder (ap is_some declares) ∙ declares in
+            let claims = claim_field p (declared p s.cells) g sh ls g.receiver f refl (own ∙ sym declares) (ap is_some own) ∙ ap (λ x. filled x (field sh f)) own in
+            filled_says p (seen s.cells) thing (field sh f) (value m.parts q) (held s.cells q) (plain q (no_word_there g.receiver f))
             (subst (λ k. Fits p (seen s.cells) (held s.cells q) k) claims (good.fits q));
       }
 
@@ -201,7 +201,7 @@ module _ (m : Machine) (s : State) (st : StandsFor m s) where
     typing = st.typing;
     strongest = st.sound.strongest;
     owners = λ r x lives. (owner_shows r x, λ is. shows_owner r x lives is.0 is.1);
-    once = λ q r x lives none none' is is'. one_place s.cells q r x x st.typed.good.tidy (shows_owner q x lives none is) (shows_owner r x lives none' is') refl;
+    once = λ q r x lives none none' is is'. one_place s.cells q r x x st.typed.good.no_duplicates (shows_owner q x lives none is) (shows_owner r x lives none' is') refl;
     registers = registers_agree;
     own_fields = own_fields_agree;
     fields = grind (arith, nat_tests, field_says, plain);
@@ -213,5 +213,5 @@ module _ (m : Machine) (s : State) (st : StandsFor m s) where
         (x.0, x.1, (owner_shows (Entry k) x.0 x.1).1);
   }
 
-pub agrees_in_all : (m : Machine) → AgreesInAll m
+pub agrees_in_all : (m : MachineModel) → AgreesInAll m
 agrees_in_all m s st = agreement m s st

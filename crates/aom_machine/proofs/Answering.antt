@@ -6,7 +6,7 @@ use Rattle.std.specs.Prelude.{filter, flat_map, map, suc, ◌||◌}
 use Rattle.std.proofs.lemmas.Bool.{eq-eqb, ne_eqb, or_parts, or_right}
 use Rattle.std.proofs.lemmas.List.{length-append}
 use Rattle.aom_machine_instructions.specs.Serving.{answers}
-use Rattle.aom_machine.proofs.ClassesLemmas.{all_there}
+use Rattle.aom_machine.proofs.LinkConditionsLemmas.{all_there}
 use Rattle.aom_clients.specs.Clients as kept
 use Rattle.aom_clients.specs.declared.entry.QueueEntry.{QueueEntry}
 use Rattle.aom_clients.specs.declared.entry.QueueEntry.TheVariants.{Close}
@@ -23,7 +23,7 @@ use Rattle.aom_roles.specs.Things.{is_object}
 use Rattle.aom_cells.specs.Store.{count}
 use Rattle.aom_machine.proofs.MachineStateLemmas.{many_without, messages_in, waiting_there}
 use Rattle.aom_machine_state.specs.Serving.{asked_by}
-use Rattle.aom_machine_state.specs.Stands.{StandsFor}
+use Rattle.aom_machine_state.specs.Stands.{Refines}
 use Rattle.aom_machine_state.specs.declared.parts.Parts.{Parts}
 use Rattle.aom_roles.specs.Classes.{kind_in}
 use Rattle.aom_roles.specs.Shapes.{kind_of}
@@ -33,10 +33,10 @@ use Rattle.aom_semantics.specs.Clients.{count_messages, most_of}
 use Rattle.aom_semantics.specs.Requests.{thing_kind}
 use Rattle.aom_safety.specs.Kept.{ClientsFit, QueueFits}
 use Rattle.aom_semantics.specs.Lines.{ended_line}
-use Rattle.aom_semantics.specs.Places.{Asked, Cell, Close_of, Connect_of, Elsewhere, Message_of, Object, Queued as Waits_at, Tidy, held, service_of, without}
+use Rattle.aom_semantics.specs.Places.{Asked, Cell, Close_of, Connect_of, Elsewhere, Message_of, Object, Queued as Waits_at, NoDuplicates, held, service_of, without}
 use Rattle.aom_semantics.specs.Servers.{is_connect, is_message}
 use Rattle.aom_semantics.specs.State.{State}
-use Rattle.aom_machine.proofs.StepLines.{going_lines, told_one}
+use Rattle.aom_machine.proofs.StepLines.{going_lines, reported_one}
 
 -- ---- messages that wait
 
@@ -71,15 +71,15 @@ still_there cs n m (Message_of c k ∷ es) none there = grind (
 )
 
 -- so there are as many messages at least
-few_wait : (n : ℕ) (es : List Asked) (cs : List Cell) → Tidy cs → AreThere cs n es → messages_of es ≤ count_messages cs
-few_wait n [] cs tidy there = omega arith
-few_wait n (Connect_of c ∷ es) cs tidy there = few_wait n es cs tidy there
-few_wait n (Close_of c ∷ es) cs tidy there = few_wait n es cs tidy there
-few_wait n (Message_of c m ∷ es) cs tidy there =
+few_wait : (n : ℕ) (es : List Asked) (cs : List Cell) → NoDuplicates cs → AreThere cs n es → messages_of es ≤ count_messages cs
+few_wait n [] cs no_duplicates there = omega arith
+few_wait n (Connect_of c ∷ es) cs no_duplicates there = few_wait n es cs no_duplicates there
+few_wait n (Close_of c ∷ es) cs no_duplicates there = few_wait n es cs no_duplicates there
+few_wait n (Message_of c m ∷ es) cs no_duplicates there =
     let g = Elsewhere (Waits_at n m) in
-    let less = few_wait n es (without g cs) (tidy_without cs g tidy) (still_there cs n m es there.1 there.2) in
+    let less = few_wait n es (without g cs) (tidy_without cs g no_duplicates) (still_there cs n m es there.1 there.2) in
     let one : messages_in (held cs g) ≡ 1 = ap messages_in there.0.1 ∙ ap (λ b. cond b 0 1) there.0.2 in
-    let all = many_without cs g tidy in
+    let all = many_without cs g no_duplicates in
     omega (arith, less, one, all)
 
 -- ---- the lines
@@ -91,7 +91,7 @@ answered es = length (filter is_connect es) + messages_of es
 few_lines : (cs : List Cell) (es : List Asked) → length (flat_map (ended_line cs) es) ≤ answered es
 few_lines cs [] = omega arith
 few_lines cs (Connect_of c ∷ es) = let few = few_lines cs es in omega (arith, few)
-few_lines cs (Message_of c m ∷ es) = grind (arith, nat_tests, few_lines cs es, told_one, length-append)
+few_lines cs (Message_of c m ∷ es) = grind (arith, nat_tests, few_lines cs es, reported_one, length-append)
 few_lines cs (Close_of c ∷ es) = few_lines cs es
 
 few_answers : (places : List MessagePlace) (es : List QueueEntry) → answers es ≡ answered (map (asked_by places) es)
@@ -116,7 +116,7 @@ most_few p formed (An_object_of class) = go (class_at p class) refl
 
 -- ---- a server
 
-module _ (p : Image) (m : Parts) (s : State) (st : StandsFor (record { image = p; parts = m }) s) (bound : count m.messages ≤ m.messages.limit) where
+module _ (p : Image) (m : Parts) (s : State) (st : Refines (record { image = p; parts = m }) s) (bound : count m.messages ≤ m.messages.limit) where
   fit : ClientsFit p s.clients s.cells
   fit = st.kept.fit
 

@@ -22,7 +22,7 @@ use Rattle.aom_machine_state.specs.Agrees.{Agrees, SameDispatch, SameFrame, Repr
 use Rattle.aom_machine_state.specs.Places.{others, value_in}
 use Rattle.aom_machine.proofs.MachineStateLemmas.{at_set, mark_shows_none}
 use Rattle.aom_machine.proofs.MachineInstructionsLemmas.{Aside}
-use Rattle.aom_machine.specs.Servers.{told_first, told_words}
+use Rattle.aom_machine.specs.Servers.{loaded_first, loaded_message_words}
 use Rattle.aom_machine.specs.Turns.{begins_under}
 
 -- what a place shows where nothing is at hand
@@ -68,30 +68,30 @@ module _ (s : Store) (place : ℕ) where
   abbrev number_of : ℕ → ℕ
   number_of w = cast_unsigned w32 (message_word s place w)
 
-  told_wide : (many : ℕ) (f : Machine_frame) → length (told_first s place many f).registers ≡ length f.registers
-  told_wide zero f = refl
-  told_wide (suc n) f = length-set (told_first s place n f).registers n (number_of n) ∙ told_wide n f
+  reported_wide : (many : ℕ) (f : Machine_frame) → length (loaded_first s place many f).registers ≡ length f.registers
+  reported_wide zero f = refl
+  reported_wide (suc n) f = length-set (loaded_first s place n f).registers n (number_of n) ∙ reported_wide n f
 
   -- so many registers have them, and the others are as they were
-  told_register : (many : ℕ) (f : Machine_frame) → many ≤ length f.registers →
-      (i : ℕ) → slice_index_or (told_first s place many f).registers i null ≡ cond (nat_lt i many) (number_of i) (slice_index_or f.registers i null)
-  told_register zero f room i = sym (ap (λ b. cond b (number_of i) (slice_index_or f.registers i null)) (le-ltb i 0 (omega arith)))
-  told_register (suc n) f room i =
-      grind (arith, nat_tests, at_set, told_wide n f, told_register n f, cases_lt i n, eqb-true n i, lt-ltb i (suc n), lt-ltb i n, le-ltb i n, le-ltb i (suc n))
+  reported_register : (many : ℕ) (f : Machine_frame) → many ≤ length f.registers →
+      (i : ℕ) → slice_index_or (loaded_first s place many f).registers i null ≡ cond (nat_lt i many) (number_of i) (slice_index_or f.registers i null)
+  reported_register zero f room i = sym (ap (λ b. cond b (number_of i) (slice_index_or f.registers i null)) (le-ltb i 0 (omega arith)))
+  reported_register (suc n) f room i =
+      grind (arith, nat_tests, at_set, reported_wide n f, reported_register n f, cases_lt i n, eqb-true n i, lt-ltb i (suc n), lt-ltb i n, le-ltb i n, le-ltb i (suc n))
 
-  pub told_frame : (many : ℕ) (f : Machine_frame) (fr : Frame) (ws : List (Option ℤ)) → SameFrame f fr →
-      SameFrame (told_first s place many f) (record fr { words = ws })
-  told_frame zero f fr ws same =
-      record { method = same.method; place = same.place; this = same.this; view = same.view; housed = same.housed; wide = same.wide; counters = same.counters; loops = same.loops }
-  told_frame (suc n) f fr ws same =
-      let g = told_frame n f fr ws same in
+  pub reported_frame : (many : ℕ) (f : Machine_frame) (fr : Frame) (ws : List (Option ℤ)) → SameFrame f fr →
+      SameFrame (loaded_first s place many f) (record fr { words = ws })
+  reported_frame zero f fr ws same =
+      record { method = same.method; place = same.place; this = same.this; view = same.view; receiver_held = same.receiver_held; wide = same.wide; counters = same.counters; loops = same.loops }
+  reported_frame (suc n) f fr ws same =
+      let g = reported_frame n f fr ws same in
       record {
         method = g.method;
         place = g.place;
         this = g.this;
         view = g.view;
-        housed = g.housed;
-        wide = length-set (told_first s place n f).registers n (number_of n) ∙ g.wide;
+        receiver_held = g.receiver_held;
+        wide = length-set (loaded_first s place n f).registers n (number_of n) ∙ g.wide;
         counters = g.counters;
         loops = g.loops;
       }
@@ -99,16 +99,16 @@ module _ (s : Store) (place : ℕ) where
   -- each word is read again as it was
   module _ (cs : List Cell) (name : ℕ) (f : Machine_frame) (wide : length f.registers ≡ 16)
       (bare : (i : ℕ) → slice_index_or f.registers i null ≡ null) (reads : (w : ℕ) → w < 5 → cast_signed w32 (number_of w) ≡ word_field cs name w) where
-    here : (i : ℕ) → i < 5 → slice_index_or (told_words s place f).registers i null ≡ number_of i
-    here i small = grind (arith, nat_tests, told_register 5 f, lt-ltb i 5 small)
+    here : (i : ℕ) → i < 5 → slice_index_or (loaded_message_words s place f).registers i null ≡ number_of i
+    here i small = grind (arith, nat_tests, reported_register 5 f, lt-ltb i 5 small)
 
-    shown : (i : ℕ) → i < 5 → cast_signed w32 (slice_index_or (told_words s place f).registers i null) ≡ word_field cs name i
+    shown : (i : ℕ) → i < 5 → cast_signed w32 (slice_index_or (loaded_message_words s place f).registers i null) ≡ word_field cs name i
     shown i small = ap (cast_signed w32) (here i small) ∙ reads i small
 
-    pub words_shown : (i : ℕ) → Represents (slice_index_or (told_words s place f).registers i null) (at None (message_words cs name) i) None
+    pub words_shown : (i : ℕ) → Represents (slice_index_or (loaded_message_words s place f).registers i null) (at None (message_words cs name) i) None
     words_shown zero = shown 0 (omega arith)
     words_shown (suc zero) = shown 1 (omega arith)
     words_shown (suc (suc zero)) = shown 2 (omega arith)
     words_shown (suc (suc (suc zero))) = shown 3 (omega arith)
     words_shown (suc (suc (suc (suc zero)))) = shown 4 (omega arith)
-    words_shown (suc (suc (suc (suc (suc i))))) = grind (arith, nat_tests, told_register 5 f, le-ltb (suc (suc (suc (suc (suc i))))) 5)
+    words_shown (suc (suc (suc (suc (suc i))))) = grind (arith, nat_tests, reported_register 5 f, le-ltb (suc (suc (suc (suc (suc i))))) 5)

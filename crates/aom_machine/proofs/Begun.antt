@@ -6,10 +6,10 @@ use Rattle.std.specs.List.{list_any}
 use Rattle.std.specs.Prelude.{is_some}
 use Rattle.std.proofs.lemmas.Bool.{cases_lt, true≢false}
 use Rattle.std.proofs.lemmas.Option.{none-some, same_Some}
-use Rattle.aom_active.specs.Agrees.{Active}
-use Rattle.aom_typings.specs.Heights.{HasHeights}
+use Rattle.aom_active_objects.specs.Agrees.{Active}
+use Rattle.aom_static_bounds.specs.Heights.{HasHeights}
 use Rattle.aom_cells.specs.Heap.{class_at}
-use Rattle.aom_classes.specs.Roles.{destructor_of, role_of}
+use Rattle.aom_link_conditions.specs.Roles.{destructor_of, role_of}
 use Rattle.aom_clients.specs.Clients as kept
 use Rattle.aom_clients.specs.Table.{sender, session_of}
 use Rattle.aom_clients.specs.declared.client.Client.{Client}
@@ -22,36 +22,36 @@ use Rattle.aom_image.specs.declared.method.Thing.TheVariants.{Object as An_objec
 use Rattle.aom_machine_state.specs.LineBuffer.{LineBuffer}
 use Rattle.aom_cells.specs.Store.{Store, word_at}
 use Rattle.aom_roles.specs.Tables.{at}
-use Rattle.aom_shape.specs.declared.kind.Kind.TheVariants.{Null}
+use Rattle.aom_abstract_state.specs.declared.kind.Kind.TheVariants.{Null}
 use Rattle.aom_machine.proofs.SafetyLemmas.{apart_still, at_rest, comes_moved, comes_served, destroys, first_sent, fit_moved, fit_taken, fits_unowning}
-use Rattle.aom_machine.proofs.SafetyLemmas.{held_served, seats_first, service_here, service_moved, tasks_begun}
+use Rattle.aom_machine.proofs.SafetyLemmas.{held_served, owned_objects_first, service_here, service_moved, tasks_begun}
 use Rattle.aom_semantics.specs.Tokens.{TokensApart}
 use Rattle.aom_safety.specs.Claims.{declared}
 use Rattle.aom_semantics.specs.Clients.{most_of}
 use Rattle.aom_semantics.specs.Destruction.{begun, begun_by}
 use Rattle.aom_semantics.specs.Requests.{thing_kind}
-use Rattle.aom_safety.specs.Kept.{ClientsFit, IsKept, is_close_of, is_connect_of}
+use Rattle.aom_safety.specs.Kept.{ClientsFit, StateInvariant, is_close_of, is_connect_of}
 use Rattle.aom_safety.specs.Laws.{IsWired}
 use Rattle.aom_semantics.specs.Lines.{serve_of}
 use Rattle.aom_semantics.specs.Places.{Cell, Elsewhere, Going, In_service, Object, Place, Queued, Session, held, moved, named, requested, service_of}
-use Rattle.aom_safety.specs.Quiet.{IsCalm}
-use Rattle.aom_semantics.specs.Servers.{is_server, reserved, seats_taken, taken_first}
-use Rattle.aom_semantics.specs.State.{A_mark, Accepts, Closing, Destroy, Dispatch, Dispatched, Goes, Inside, Item, Home}
-use Rattle.aom_semantics.specs.State.{Of_server, Parts, Counters, Seat, Serves, Stage, State, Task, frame_of}
+use Rattle.aom_safety.specs.Quiet.{OnlyQuietRun}
+use Rattle.aom_semantics.specs.Servers.{is_server, reserved, sessions_in_use, taken_first}
+use Rattle.aom_semantics.specs.State.{A_mark, Accepts, Closing, Destroy, Dispatch, Dispatched, Goes, Inside, Item, Receiver}
+use Rattle.aom_semantics.specs.State.{Of_server, Disconnects, Counters, OwnedObject, Serves, Stage, State, Task, frame_of}
 use Rattle.aom_safety.specs.Traps.{AllAtTraps}
-use Rattle.aom_safety.specs.WellTyped.{Keeps}
+use Rattle.aom_safety.specs.WellTyped.{PreservesTyping}
 use Rattle.aom_semantics.specs.World.{IsBetween, Picks, message_words, pick_line, picked, serving, taken_from as checked_taken}
-use Rattle.aom_machine.proofs.ProgressLemmas.{begun_payer, picking}
-use Rattle.aom_progress.specs.Left.{left}
-use Rattle.aom_progress.specs.Payers.{class_of, declared_of, payer, price_of}
+use Rattle.aom_machine.proofs.TerminationLemmas.{begun_budget_owner, picking}
+use Rattle.aom_termination.specs.Left.{left}
+use Rattle.aom_termination.specs.BudgetOwners.{class_of, declared_of, budget_owner, price_of}
 use Rattle.aom_transcript.specs.declared.line.Line.TheVariants.{Serve}
 use Rattle.aom_machine_state.specs.declared.parts.Parts.{Parts as Machine_parts}
 use Rattle.aom_machine_state.specs.Agrees.{Agrees}
 use Rattle.aom_machine_state.specs.Room.{AllFit, AllRunUnder, AllUnder, HasRoom}
 use Rattle.aom_machine_state.specs.Serving.{asked_by, message_name}
-use Rattle.aom_machine_state.specs.Stands.{StandsFor}
+use Rattle.aom_machine_state.specs.Stands.{Refines}
 use Rattle.aom_machine_state.specs.Waits.{OthersWait}
-use Rattle.aom_rules.specs.Typing.{Typing}
+use Rattle.aom_typing_rules.specs.Typing.{Typing}
 use Rattle.aom_machine.proofs.MachineInstructionsLemmas.{dispatches_with_room}
 use Rattle.aom_machine.specs.Servers.{AreRead, Begins, IsWord, Notes, ServesFirst, accepting, attending, parting, serve_asked, taken_from}
 use Rattle.aom_machine.specs.Turns.{Takes}
@@ -73,7 +73,7 @@ module _ (p : Image) (o : Object) (height : ℕ) (d : Dispatch) where
       go : (b : Bool) → P (cond b (Closing ∷ Destroy ∷ ends) (begun_by p (destructor_of p o.thing) o height ends))
       go x = grind arith
 
-  begun_calm : IsWired p → IsCalm p (begun p o height ends)
+  begun_calm : IsWired p → OnlyQuietRun p (begun p o height ends)
   begun_calm wired = grind (arith, nat_tests, by_begun, destroys p wired o.thing)
 
   begun_traps : AllAtTraps p (begun p o height ends)
@@ -104,9 +104,9 @@ each_read : (s : Store) (place many : ℕ) → AreRead s place many → (w : ℕ
 each_read s place zero read w small = absurd (omega (arith, small))
 each_read s place (suc k) read w small = grind (arith, nat_tests, cases_lt w k, each_read s place k read.1 w)
 
-module _ (p : Image) (m : Machine_parts) (s : State) (st : StandsFor (record { image = p; parts = m }) s)
-    (idle : s.tasks ≡ []) (x : Seat) (lives : named s.cells x.object.name ≡ Some x.object) (serves : is_server p x.object.thing ≡ true)
-    (keeps : Keeps p st.typing (picked p x s)) (asked : is_some (requested s.cells x.object.name) ≡ true)
+module _ (p : Image) (m : Machine_parts) (s : State) (st : Refines (record { image = p; parts = m }) s)
+    (idle : s.tasks ≡ []) (x : OwnedObject) (lives : named s.cells x.object.name ≡ Some x.object) (serves : is_server p x.object.thing ≡ true)
+    (keeps : PreservesTyping p st.typing (picked p x s)) (asked : is_some (requested s.cells x.object.name) ≡ true)
     (active : Active) (noted : Notes x.object.name (kept.after_next x.object.name m.clients) m.active active) where
   abbrev n : ℕ
   n = x.object.name
@@ -160,22 +160,22 @@ module _ (p : Image) (m : Machine_parts) (s : State) (st : StandsFor (record { i
   affords : price_of p st.sound.prices (class_of x.object.thing) ≤ declared_of p (class_of x.object.thing)
   affords = subst (λ t. price_of p st.sound.prices (class_of t) ≤ declared_of p (class_of t)) (sym thing) (st.sound.objects.each class)
 
-  pays : (u : State) → picked p x s ≡ Goes u → left p st.sound.prices u ≤ price_of p st.sound.prices (payer u.tasks)
+  pays : (u : State) → picked p x s ≡ Goes u → left p st.sound.prices u ≤ price_of p st.sound.prices (budget_owner u.tasks)
   pays u goes = picking p st.typing st.sound.prices st.sound.wired.family st.sound.linked st.sound.affordable.priced s st.typed idle (Picks x) lives refl u goes
 
   -- ---- a method begins, on these words
 
-  module _ (c method : ℕ) (a : Stage) (home : Home) (words : List (Option ℤ)) (from : State) (new : Machine_parts) where
+  module _ (c method : ℕ) (a : Stage) (receiver : Receiver) (words : List (Option ℤ)) (from : State) (new : Machine_parts) where
     abbrev begins : State
-    begins = serving x c a (record (frame_of method home (length (A_mark ∷ from.items))) { words = words }) from
+    begins = serving x c a (record (frame_of method receiver (length (A_mark ∷ from.items))) { words = words }) from
 
     method_stands : from.rest.steps ≡ 0 → picked p x s ≡ Goes begins → HasRoom p (at 0 st.sound.depths.depths) (at 0 st.sound.heights.heights) begins →
-        IsKept p begins → Agrees p new begins → StandsFor (record { image = p; parts = new }) begins
+        StateInvariant p begins → Agrees p new begins → Refines (record { image = p; parts = new }) begins
     method_stands steps goes room kept agrees = record {
       typing = st.typing;
       sound = st.sound;
-      typed = subst (λ o. Keeps p st.typing o) goes keeps;
-      calm = (λ clearing. absurd (true≢false (sym clearing)), (refl, tt));
+      typed = subst (λ o. PreservesTyping p st.typing o) goes keeps;
+      only_quiet = (λ clearing. absurd (true≢false (sym clearing)), (refl, tt));
       traps = (tt, (tt, tt));
       room = room;
       waits = tt;
@@ -193,16 +193,16 @@ module _ (p : Image) (m : Machine_parts) (s : State) (st : StandsFor (record { i
     accepted_goes : picked p x s ≡ Goes accepted
     accepted_goes = accept_goes p m s st idle x lives serves class is active noted c es at_first method accepts
 
-    seat_left : seats_taken (service_of cs n) < most_of (thing_kind p x.object.thing)
-    seat_left = grind (arith, nat_tests, seats_first, queue_so (Connect c ∷ es) at_first, service_here s.cells)
+    owned_object_left : sessions_in_use (service_of cs n) < most_of (thing_kind p x.object.thing)
+    owned_object_left = grind (arith, nat_tests, owned_objects_first, queue_so (Connect c ∷ es) at_first, service_here s.cells)
 
-    accept_stands : StandsFor (record { image = p; parts = accepting method subject c taken }) accepted
+    accept_stands : Refines (record { image = p; parts = accepting method subject c taken }) accepted
     accept_stands = method_stands c method Accepts (Inside x.object x.place) [] (checked_taken n s) (accepting method subject c taken) refl accepted_goes
         (dispatches_with_room p (at 0 st.sound.depths.depths) st.sound.heights cs method
         (Inside x.object x.place) (Of_server x c Accepts) s.items (checked_taken n s).rest s.killed s.clients (none_pushed p m s st idle))
         (record {
           fit = fit_now (Connect c) es at_first;
-          stage = (first_fits p m s st idle x lives serves keeps (Connect c) es at_first, ap (λ q. list_any (is_connect_of c) q) (queue_now (Connect c) es at_first) ∙ not_again, seat_left);
+          stage = (first_fits p m s st idle x lives serves keeps (Connect c) es at_first, ap (λ q. list_any (is_connect_of c) q) (queue_now (Connect c) es at_first) ∙ not_again, owned_object_left);
           tokens = taken_apart;
         }) (accept_agrees p m s st idle x lives serves class is active noted c es at_first method accepts)
       where
@@ -217,11 +217,11 @@ module _ (p : Image) (m : Machine_parts) (s : State) (st : StandsFor (record { i
     abbrev c : ℕ
     c = sender (kept.place_at m.clients j)
 
-    abbrev home : Place
-    home = Elsewhere (Session n c)
+    abbrev receiver : Place
+    receiver = Elsewhere (Session n c)
 
     abbrev attended : State
-    attended = serving x c (Serves o) (record (frame_of method (Inside o home) (length (A_mark ∷ s.items))) { words = message_words cs (message_name j) })
+    attended = serving x c (Serves o) (record (frame_of method (Inside o receiver) (length (A_mark ∷ s.items))) { words = message_words cs (message_name j) })
         (record (checked_taken n s) { cells = moved (Elsewhere (Queued n (message_name j))) (Elsewhere In_service) cs })
 
     below : j < 1024
@@ -233,10 +233,10 @@ module _ (p : Image) (m : Machine_parts) (s : State) (st : StandsFor (record { i
     attended_goes : picked p x s ≡ Goes attended
     attended_goes = attend_goes p m s st idle x lives serves class is active noted j es at_first below o class' is' there method attends words
 
-    attend_stands : StandsFor (record { image = p; parts = attending method (record { number = o.name; class = class' }) subject c j taken }) attended
+    attend_stands : Refines (record { image = p; parts = attending method (record { number = o.name; class = class' }) subject c j taken }) attended
     attend_stands = let r = dispatches_with_room p (at 0 st.sound.depths.depths) st.sound.heights attended.cells method
-        (Inside o home) (Of_server x c (Serves o)) s.items (checked_taken n s).rest s.killed s.clients (none_pushed p m s st idle) in
-        method_stands c method (Serves o) (Inside o home) (message_words cs (message_name j)) (record (checked_taken n s) { cells = attended.cells })
+        (Inside o receiver) (Of_server x c (Serves o)) s.items (checked_taken n s).rest s.killed s.clients (none_pushed p m s st idle) in
+        method_stands c method (Serves o) (Inside o receiver) (message_words cs (message_name j)) (record (checked_taken n s) { cells = attended.cells })
         (attending method (record { number = o.name; class = class' }) subject c j taken) refl attended_goes
         (record { under = r.under; runs = r.runs; fit = r.fit; entries = r.entries }) (record {
           fit = fit_moved p s.clients cs (Elsewhere (Queued n (message_name j))) (Elsewhere In_service) (empty_now (Elsewhere In_service) refl)
@@ -250,7 +250,7 @@ module _ (p : Image) (m : Machine_parts) (s : State) (st : StandsFor (record { i
 
   module _ (c : ℕ) (es : List QueueEntry) (at_first : queue ≡ Close c ∷ es) (o : Object) (there : held s.cells (Elsewhere (Session n c)) ≡ Some o) where
     abbrev d : Dispatch
-    d = Of_server x c Parts
+    d = Of_server x c Disconnects
 
     abbrev parted_cells : List Cell
     parted_cells = moved (Elsewhere (Session n c)) (Going 1) cs
@@ -264,12 +264,12 @@ module _ (p : Image) (m : Machine_parts) (s : State) (st : StandsFor (record { i
     parted_goes : picked p x s ≡ Goes parted
     parted_goes = part_goes p m s st idle x lives serves class is active noted c es at_first o there client
 
-    part_stands : StandsFor (record { image = p; parts = parting p o.name subject c taken }) parted
+    part_stands : Refines (record { image = p; parts = parting p o.name subject c taken }) parted
     part_stands = record {
       typing = st.typing;
       sound = st.sound;
-      typed = subst (λ o. Keeps p st.typing o) parted_goes keeps;
-      calm = begun_calm p o (length s.items) d st.sound.wired;
+      typed = subst (λ o. PreservesTyping p st.typing o) parted_goes keeps;
+      only_quiet = begun_calm p o (length s.items) d st.sound.wired;
       traps = begun_traps p o (length s.items) d;
       room = begun_room p o (length s.items) d (at 0 st.sound.depths.depths) st.sound.heights parted_cells s.items (checked_taken n s).rest s.killed s.clients
           (none_pushed p m s st idle);
@@ -291,8 +291,8 @@ module _ (p : Image) (m : Machine_parts) (s : State) (st : StandsFor (record { i
           arith,
           pays parted parted_goes,
           affords,
-          ap (λ y. price_of p st.sound.prices y) (begun_payer p o (length s.items) (Dispatched d ∷ [])),
-          ap (λ y. declared_of p y) (begun_payer p o (length s.items) (Dispatched d ∷ [])),
+          ap (λ y. price_of p st.sound.prices y) (begun_budget_owner p o (length s.items) (Dispatched d ∷ [])),
+          ap (λ y. declared_of p y) (begun_budget_owner p o (length s.items) (Dispatched d ∷ [])),
         );
       };
       agrees = part_agrees p m s st idle x lives serves class is active noted c es at_first o there client;
@@ -305,7 +305,7 @@ module _ (p : Image) (m : Machine_parts) (s : State) (st : StandsFor (record { i
 
   -- the checked machine goes on, and the machine stands for where it goes on
   abbrev pub Went : Machine_parts → Type 0
-  Went new = (u : State) × (picked p x s ≡ Goes u) × StandsFor (record { image = p; parts = new }) u
+  Went new = (u : State) × (picked p x s ≡ Goes u) × Refines (record { image = p; parts = new }) u
 
   went : (e : QueueEntry) (es : List QueueEntry) → queue ≡ e ∷ es → (new : Machine_parts) →
       Begins p subject (kept.taken_entry m.clients e).client (kept.taken_entry m.clients e).entry taken new → Went new
@@ -338,11 +338,11 @@ module _ (p : Image) (m : Machine_parts) (s : State) (st : StandsFor (record { i
   line_so e es at = grind (arith, nat_tests, entry_line s.rest.clock e, queue_so (e ∷ es) at, thing)
 
 -- a server is picked: what the machine does is what the checked machine does
-pub server_served : (p : Image) (m : Machine_parts) (s : State) (st : StandsFor (record { image = p; parts = m }) s) (between : IsBetween s) (x : Seat) →
+pub server_served : (p : Image) (m : Machine_parts) (s : State) (st : Refines (record { image = p; parts = m }) s) (between : IsBetween s) (x : OwnedObject) →
     named s.cells x.object.name ≡ Some x.object → is_server p x.object.thing ≡ true →
-    Keeps p st.typing (picked p x s) → is_some (requested s.cells x.object.name) ≡ true → (told now : LineBuffer) (new : Machine_parts) →
-    ServesFirst p x.object.name m told now new → Takes (record { image = p; parts = m }) s (Picks x) told now (record { image = p; parts = new })
-server_served p m s st between x lives serves keeps asked told now new f = go (kept.queue_at m.clients n) refl
+    PreservesTyping p st.typing (picked p x s) → is_some (requested s.cells x.object.name) ≡ true → (reported now : LineBuffer) (new : Machine_parts) →
+    ServesFirst p x.object.name m reported now new → Takes (record { image = p; parts = m }) s (Picks x) reported now (record { image = p; parts = new })
+server_served p m s st between x lives serves keeps asked reported now new f = go (kept.queue_at m.clients n) refl
   where
     n : ℕ
     n = x.object.name
@@ -353,7 +353,7 @@ server_served p m s st between x lives serves keeps asked told now new f = go (k
     same_class : f.class ≡ class
     same_class = same_Some f.class class (sym f.is ∙ (server_class p m s st between.idle x lives serves keeps).1.is)
 
-    go : (es : List QueueEntry) → kept.queue_at m.clients n ≡ es → Takes (record { image = p; parts = m }) s (Picks x) told now (record { image = p; parts = new })
+    go : (es : List QueueEntry) → kept.queue_at m.clients n ≡ es → Takes (record { image = p; parts = m }) s (Picks x) reported now (record { image = p; parts = new })
     go [] at = absurd (none-some f.first (sym (ap (kept.first_entry m.clients) at) ∙ f.waits))
     go (e ∷ es) at =
         let first : kept.taken_entry m.clients e ≡ f.first = same_Some (kept.taken_entry m.clients e) f.first (sym (ap (kept.first_entry m.clients) at) ∙ f.waits) in
@@ -369,6 +369,6 @@ server_served p m s st between x lives serves keeps asked told now new f = go (k
           between = between;
           state = w.0;
           goes = w.1;
-          lines = f.lines ∙ ap (λ ls. record told { lines = told.lines ++ ls }) line;
+          lines = f.lines ∙ ap (λ ls. record reported { lines = reported.lines ++ ls }) line;
           stands = w.2;
         }

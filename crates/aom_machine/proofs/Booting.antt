@@ -2,8 +2,8 @@
 use Rattle.std.proofs.lemmas.Bool.Decides.{nat_tests}
 use Rattle.std.proofs.Common.{◌≡◌, ℕ, Bool, false, cond, [], ◌∷◌, Some, None, refl, sym, ap, ◌∙◌, subst, arith, length, replicate, slice_index_or}
 use Rattle.aom_image.specs.Image.{Image}
-use Rattle.aom_classes.specs.Linked.{IsLinked}
-use Rattle.aom_classes.specs.Roles.{main_of}
+use Rattle.aom_link_conditions.specs.Linked.{IsLinked}
+use Rattle.aom_link_conditions.specs.Roles.{main_of}
 use Rattle.aom_cells.specs.Heap.{Heap, null, cell_at, word_of, count}
 use Rattle.aom_cells.specs.declared.cell.Cell.{Cell as Machine_cell}
 use Rattle.aom_frames.specs.Items.{Stack as Machine_items}
@@ -11,19 +11,19 @@ use Rattle.aom_frames.specs.Tasks.{fresh}
 use Rattle.aom_frames.specs.declared.task.Task.TheVariants.{Run as Runs_frame, Trapped as Is_trap, Dispatched as Ends}
 use Rattle.aom_frames.specs.declared.dispatch.Dispatch.TheVariants.{Main}
 use Rattle.aom_semantics.specs.State.{AtRoot, frame_of, Run, Trapped, Dispatched, Of_main, A_mark}
-use Rattle.aom_rules.specs.Typing.{Typing}
-use Rattle.aom_typings.specs.Strongest.{IsStrongest}
-use Rattle.aom_typings.specs.Depths.{HasDepths}
-use Rattle.aom_typings.specs.Heights.{HasHeights}
+use Rattle.aom_typing_rules.specs.Typing.{Typing}
+use Rattle.aom_static_bounds.specs.Strongest.{IsStrongest}
+use Rattle.aom_static_bounds.specs.Depths.{HasDepths}
+use Rattle.aom_static_bounds.specs.Heights.{HasHeights}
 use Rattle.aom_budget.specs.Budgets.{CostsWithin}
 use Rattle.aom_semantics.specs.Places.{Place, Elsewhere, Root}
 use Rattle.aom_safety.specs.Laws.{BootKeeps, StepKeeps, LinkedIsWired}
 use Rattle.aom_machine.proofs.SafetyLemmas.{boot as boots_at_traps, clients_keep}
-use Rattle.aom_safety.specs.Quiet.{CalmKeeps}
+use Rattle.aom_safety.specs.Quiet.{QuietPreserved}
 use Rattle.aom_semantics.specs.World.{main_tasks, boot_state}
-use Rattle.aom_typings.specs.Dispatches.{IsAffordable}
-use Rattle.aom_typings.specs.Prices.{Prices}
-use Rattle.aom_progress.specs.Laws.{BootWithin, MovesPay}
+use Rattle.aom_static_bounds.specs.Dispatches.{IsAffordable}
+use Rattle.aom_static_bounds.specs.Prices.{Prices}
+use Rattle.aom_termination.specs.Laws.{BootWithin, MovesPay}
 use Rattle.aom_machine.proofs.SemanticsLemmas.{cond_same}
 use Rattle.aom_machine_state.specs.declared.parts.Parts.{Parts}
 use Rattle.aom_machine_state.specs.Boot.{Booted}
@@ -34,7 +34,7 @@ use Rattle.aom_machine.proofs.Affording.{affords}
 use Rattle.aom_machine.proofs.MachineInstructionsLemmas.{begun_frame, begun_registers, boot_room, shows_null}
 use Rattle.aom_machine.proofs.Paying.{boots_within, keeps_within}
 use Rattle.aom_machine.proofs.Waiting.{none_waits}
-use Rattle.aom_machine_state.specs.Stands.{Sound, StandsFor}
+use Rattle.aom_machine_state.specs.Stands.{Sound, Refines}
 use Rattle.aom_cells.specs.Sessions.{Standing, is_open}
 use Rattle.std.proofs.lemmas.List.{length-replicate}
 
@@ -96,9 +96,9 @@ module _ (p : Image) (m : Parts) (booted : Booted p m) where
 abbrev pub Afforded : Image → Type 0
 Afforded p = (t : Typing) × IsStrongest p t × (c : Prices) × IsAffordable p t c × CostsWithin p c
 
-pub boots : (p : Image) (m : Parts) → IsLinked p → Afforded p → HasDepths p → HasHeights p → BootKeeps → StepKeeps → CalmKeeps → LinkedIsWired → BootWithin →
-    MovesPay → Booted p m → StandsFor (record { image = p; parts = m }) (boot_state p)
-boots p m linked (t, strongest, prices, affordable, costs) depths heights boot_keeps step_keeps calm_keeps wired boot_within moves_pay booted =
+pub boots : (p : Image) (m : Parts) → IsLinked p → Afforded p → HasDepths p → HasHeights p → BootKeeps → StepKeeps → QuietPreserved → LinkedIsWired → BootWithin →
+    MovesPay → Booted p m → Refines (record { image = p; parts = m }) (boot_state p)
+boots p m linked (t, strongest, prices, affordable, costs) depths heights boot_keeps step_keeps quiet_preserved wired boot_within moves_pay booted =
     let w = wired p booted.formed linked in
     let sound : Sound p t = record {
       formed = booted.formed;
@@ -118,7 +118,7 @@ boots p m linked (t, strongest, prices, affordable, costs) depths heights boot_k
       typing = t;
       sound = sound;
       typed = boot_keeps p t w strongest.typed;
-      calm = calm_keeps.boot p;
+      only_quiet = quiet_preserved.boot p;
       traps = boots_at_traps p (main_of p);
       room = boot_room p t sound;
       waits = none_waits p t;

@@ -5,7 +5,7 @@ use Rattle.aom_clients.specs.declared.client.Client.TheVariants.{Connecting, Ope
 use Rattle.aom_clients.specs.declared.refusal.CommandRefusal.{CommandRefusal}
 use Rattle.aom_clients.specs.Table.{row}
 use Rattle.aom_image.specs.Image.{Image}
-use Rattle.aom_semantics.specs.Clients.{Listed, asked_server, client_at, commanded, connecting, leaving, refusal, sending, told, with_client, with_message}
+use Rattle.aom_semantics.specs.Clients.{Listed, asked_server, client_at, commanded, connecting, leaving, refusal, sending, reported, with_client, with_message}
 use Rattle.aom_semantics.specs.Places.{Cell, Close_of, Connect_of}
 use Rattle.aom_semantics.specs.Servers.{asked_last, reserved, withdrawn}
 use Rattle.aom_semantics.specs.State.{State}
@@ -33,17 +33,17 @@ module _ (p : Image) (c : ℕ) (s : State) where
   by_sending P same _ _ name words sends = same
 
   -- the server of a client that was open is asked to close its session
-  pub by_told : (P : List Cell → Type 0) (cs : List Cell) → P cs →
-      (x : Client) → ((server session slots : ℕ) → x ≡ Open server session slots → P (reserved (asked_last (Close_of c)) server cs)) → P (told p c s x cs)
-  by_told P cs same (Open server session slots) closes = closes server session slots refl
-  by_told P cs same _ closes = same
+  pub by_reported : (P : List Cell → Type 0) (cs : List Cell) → P cs →
+      (x : Client) → ((server session slots : ℕ) → x ≡ Open server session slots → P (reserved (asked_last (Close_of c)) server cs)) → P (reported p c s x cs)
+  by_reported P cs same (Open server session slots) closes = closes server session slots refl
+  by_reported P cs same _ closes = same
 
   -- a client leaves, or nothing changes
   abbrev pub left : Client → List Cell → State
   left to cs = record s { cells = cs; clients = with_client c to s.clients }
 
   pub by_leaving : (P : State → Type 0) → P s → (to : Option Client) →
-      ((x : Client) → to ≡ Some x → P (left x (told p c s (client_at s.clients c) (withdrawn c s.cells)))) → P (leaving p c s to)
+      ((x : Client) → to ≡ Some x → P (left x (reported p c s (client_at s.clients c) (withdrawn c s.cells)))) → P (leaving p c s to)
   by_leaving P same None leaves = same
   by_leaving P same (Some x) leaves = leaves x refl
 
@@ -58,7 +58,7 @@ module _ (p : Image) (c : ℕ) (s : State) where
   module _ (P : State → Type 0) (name : ℕ) (each : ByCommand P name) where
     by_left : (to : Option Client) → P (leaving p c s to)
     by_left to = by_leaving P each.same to
-        (λ x is. by_told (λ cs. P (left x cs)) (withdrawn c s.cells) (each.leaves x) (client_at s.clients c) (λ server session slots at. each.closes x server))
+        (λ x is. by_reported (λ cs. P (left x cs)) (withdrawn c s.cells) (each.leaves x) (client_at s.clients c) (λ server session slots at. each.closes x server))
 
     pub by_command : (command : ClientCommand) → P (commanded p c s command name)
     by_command (Connect class slots) =

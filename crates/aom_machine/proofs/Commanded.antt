@@ -11,18 +11,18 @@ use Rattle.aom_clients.specs.declared.client.Client.TheVariants.{Unconnected}
 use Rattle.aom_clients.specs.declared.refusal.CommandRefusal.{CommandRefusal}
 use Rattle.aom_clients.specs.declared.server.Server.{Server}
 use Rattle.aom_image.specs.Image.{Image}
-use Rattle.aom_machine.proofs.SafetyLemmas.{cell_of, cell_of_sifted, held_served, kept as kept_cell, named_served, service_cell, service_in, service_there}
-use Rattle.aom_machine.proofs.SafetyLemmas.{service_unnamed, sifted, withdrawn_so}
+use Rattle.aom_machine.proofs.SafetyLemmas.{cell_of, cell_of_filtered_cells, held_served, kept as kept_cell, named_served, service_cell, service_in, service_there}
+use Rattle.aom_machine.proofs.SafetyLemmas.{service_unnamed, filtered_cells, withdrawn_so}
 use Rattle.aom_safety.specs.Kept.{ClientsFit, QueueFits}
 use Rattle.aom_semantics.specs.Clients.{Listed, asked_server, client_at, commanded, leaving, refusal, sent_message}
-use Rattle.aom_semantics.specs.Places.{Asked, Cell, Close_of, Connect_of, Elsewhere, Message_of, Place, Queued, Service, Tidy, held, named, same_place, service_of}
+use Rattle.aom_semantics.specs.Places.{Asked, Cell, Close_of, Connect_of, Elsewhere, Message_of, Place, Queued, Service, NoDuplicates, held, named, same_place, service_of}
 use Rattle.aom_semantics.specs.Servers.{asked_last, is_from, is_queue, left_by, reserved, stays, withdrawn}
 use Rattle.aom_semantics.specs.State.{State}
 use Rattle.aom_transcript.specs.declared.event.ClientCommand.{ClientCommand}
 use Rattle.aom_transcript.specs.declared.event.ClientCommand.TheVariants.{Close, Connect, Die, Send}
-use Rattle.aom_machine.proofs.ByCommand.{by_command, by_connecting, by_leaving, by_sending, by_told}
-use Rattle.aom_machine.proofs.MachineStateLemmas.{Beside, SessionsSame, Told_alike, at_set, beside_itself, beside_message, beside_served, beside_then}
-use Rattle.aom_machine.proofs.MachineStateLemmas.{told_served}
+use Rattle.aom_machine.proofs.ByCommand.{by_command, by_connecting, by_leaving, by_sending, by_reported}
+use Rattle.aom_machine.proofs.MachineStateLemmas.{Beside, SessionsSame, Reported_alike, at_set, beside_itself, beside_message, beside_served, beside_then}
+use Rattle.aom_machine.proofs.MachineStateLemmas.{reported_served}
 use Rattle.aom_machine_state.specs.Places.{session_with}
 
 -- a place in a queue is none that is not
@@ -30,8 +30,8 @@ apart_queue : (n k : ℕ) (r : Place) → is_queue r ≡ false → same_place (E
 apart_queue n k r e = grind arith
 
 -- a new cell that is no token
-told_fresh : (x : Cell) (cs : List Cell) → named cs x.object.name ≡ None → x.service.token ≡ None → Told_alike cs (x ∷ cs)
-told_fresh x cs free none n = grind (arith, nat_tests, eqb-true x.object.name n, service_unnamed cs x.object.name free)
+reported_fresh : (x : Cell) (cs : List Cell) → named cs x.object.name ≡ None → x.service.token ≡ None → Reported_alike cs (x ∷ cs)
+reported_fresh x cs free none n = grind (arith, nat_tests, eqb-true x.object.name n, service_unnamed cs x.object.name free)
 
 -- ---- the sessions of clients
 
@@ -64,7 +64,7 @@ dies_alike x to e n = grind arith
 
 module _ (s : kept.State) (c : ℕ) (small : c < length s.clients) where
   sessions_left : (to : Client) → ((n : ℕ) → session_with n to ≡ session_with n (kept.client_at s c)) → (x : Client) →
-      SessionsSame s (kept.told x c (kept.with_client c to (kept.withdrawn c s)))
+      SessionsSame s (kept.reported x c (kept.with_client c to (kept.withdrawn c s)))
   sessions_left to same x = grind (arith, nat_tests, sessions_with s c small to same)
 
   sessions_leaving : (to : Option Client) → ((x : Client) → to ≡ Some x → (n : ℕ) → session_with n x ≡ session_with n (kept.client_at s c)) →
@@ -109,16 +109,16 @@ module _ (p : Image) (c : ℕ) (s : State) where
     }) command
 
   -- and none of these is a token
-  module _ (withdraws : Told_alike s.cells (withdrawn c s.cells)) where
-    pub commanded_told : (command : ClientCommand) (name : ℕ) → named s.cells name ≡ None → Told_alike s.cells (commanded p c s command name).cells
-    commanded_told command name free = by_command p c s (λ t. Told_alike s.cells t.cells) name (record {
+  module _ (withdraws : Reported_alike s.cells (withdrawn c s.cells)) where
+    pub commanded_reported : (command : ClientCommand) (name : ℕ) → named s.cells name ≡ None → Reported_alike s.cells (commanded p c s command name).cells
+    commanded_reported command name free = by_command p c s (λ t. Reported_alike s.cells t.cells) name (record {
       same = λ n. refl;
-      connects = λ x slots. told_served s.cells x.name _ refl;
+      connects = λ x slots. reported_served s.cells x.name _ refl;
       sends = λ words server n.
           let us = reserved (asked_last (Message_of c name)) server s.cells in
-          told_fresh (sent_message c name words server) us (named_served s.cells server _ name ∙ free) refl n ∙ told_served s.cells server _ refl n;
+          reported_fresh (sent_message c name words server) us (named_served s.cells server _ name ∙ free) refl n ∙ reported_served s.cells server _ refl n;
       leaves = λ to. withdraws;
-      closes = λ to server n. told_served (withdrawn c s.cells) server _ refl n ∙ withdraws n;
+      closes = λ to server n. reported_served (withdrawn c s.cells) server _ refl n ∙ withdraws n;
     }) command
 
   -- what is in no queue stays where it is
@@ -151,11 +151,11 @@ module _ (clients : List Client) (c n : ℕ) (away : named_by (client_at clients
   all_stay (Message_of d m ∷ es) fits = grind (arith, nat_tests, all_stay es fits.1, open_named n, eqb-true d c)
 
 -- what a client leaves of a queue
-module _ (c : ℕ) (s : State) (tidy : Tidy s.cells) (bare : (n : ℕ) (x : Cell) → cell_of s.cells n ≡ Some x → is_queue x.owner ≡ true → x.service.queue ≡ []) where
+module _ (c : ℕ) (s : State) (no_duplicates : NoDuplicates s.cells) (bare : (n : ℕ) (x : Cell) → cell_of s.cells n ≡ Some x → is_queue x.owner ≡ true → x.service.queue ≡ []) where
   queue_withdrawn : (n : ℕ) → (service_of (withdrawn c s.cells) n).queue ≡ filter (stays c) (service_of s.cells n).queue
   queue_withdrawn n = ap (λ l. (service_of l n).queue) (withdrawn_so c s.cells)
-      ∙ ap (λ (v : Service). v.queue) (service_cell (sifted (λ x. is_queue x.owner && is_from c x.service.sender) (λ x. left_by c x.service) s.cells) n)
-      ∙ ap (λ x. (service_in x).queue) (cell_of_sifted (λ x. is_queue x.owner && is_from c x.service.sender) (λ x. left_by c x.service) s.cells n tidy)
+      ∙ ap (λ (v : Service). v.queue) (service_cell (filtered_cells (λ x. is_queue x.owner && is_from c x.service.sender) (λ x. left_by c x.service) s.cells) n)
+      ∙ ap (λ x. (service_in x).queue) (cell_of_filtered_cells (λ x. is_queue x.owner && is_from c x.service.sender) (λ x. left_by c x.service) s.cells n no_duplicates)
       ∙ go (cell_of s.cells n) refl ∙ sym (ap (λ (v : Service). filter (stays c) v.queue) (service_cell s.cells n))
     where
       go : (x : Option Cell) → cell_of s.cells n ≡ x → (service_in
@@ -173,7 +173,7 @@ module _ (c : ℕ) (s : State) (tidy : Tidy s.cells) (bare : (n : ℕ) (x : Cell
               nothing false none = refl
           by false h d = ap (λ b. (service_in (cond (b && is_from c x.service.sender) None (Some (record x { service = left_by c x.service })))).queue) h
 
-module _ (p : Image) (c : ℕ) (s : State) (tidy : Tidy s.cells)
+module _ (p : Image) (c : ℕ) (s : State) (no_duplicates : NoDuplicates s.cells)
     (fit : ClientsFit p s.clients s.cells) (bare : (n : ℕ) (x : Cell) → cell_of s.cells n ≡ Some x → is_queue x.owner ≡ true → x.service.queue ≡ []) where
   abbrev SameQueue : List Cell → ℕ → Type 0
   SameQueue ds n = (service_of ds n).queue ≡ (service_of s.cells n).queue
@@ -183,7 +183,7 @@ module _ (p : Image) (c : ℕ) (s : State) (tidy : Tidy s.cells)
 
   leaving_queue : (to : Option Client) (n : ℕ) → (named_by (client_at s.clients c) ≡ Some n → ⊥) → SameQueue (leaving p c s to).cells n
   leaving_queue to n away =
-      grind (arith, nat_tests, by_leaving p c s, by_told p c s, service_there, other, queue_withdrawn c s tidy bare n, all_stay s.clients c n away)
+      grind (arith, nat_tests, by_leaving p c s, by_reported p c s, service_there, other, queue_withdrawn c s no_duplicates bare n, all_stay s.clients c n away)
 
   pub commanded_queue : (command : ClientCommand) (name : ℕ) → named s.cells name ≡ None → (n : ℕ) → Untouched p c s command n →
       SameQueue (commanded p c s command name).cells n

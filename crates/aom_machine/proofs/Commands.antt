@@ -4,7 +4,7 @@ use Rattle.std.proofs.Common.{ap, arith, length, List, None, Option, refl, Some,
 use Rattle.std.specs.Prelude.{Err, IfSome, Ok, Result, is_some, nat_lt, option_map, ◌||◌}
 use Rattle.std.proofs.lemmas.Bool.{eq-eqb, or_right}
 use Rattle.std.proofs.lemmas.Option.{none-some, same_Some}
-use Rattle.aom_active.specs.Agrees.{Active}
+use Rattle.aom_active_objects.specs.Agrees.{Active}
 use Rattle.aom_clients.specs.Clients as kept
 use Rattle.aom_clients.specs.Nodes.{named_by}
 use Rattle.aom_clients.specs.Table.{code_of}
@@ -32,20 +32,20 @@ use Rattle.aom_machine.proofs.MachineStateLemmas.{same_close, same_connect, same
 use Rattle.aom_machine.proofs.MachineStateLemmas.{sized_send, taken_sent}
 use Rattle.aom_machine_state.specs.Messages.{SameMessages}
 use Rattle.aom_machine_state.specs.Serving.{AreSized, Once, SameClients, message_name, sessionless}
-use Rattle.aom_machine_state.specs.Stands.{Machine, StandsFor}
+use Rattle.aom_machine_state.specs.Stands.{MachineModel, Refines}
 use Rattle.aom_machine_state.specs.declared.parts.Parts.{Parts}
 use Rattle.aom_machine.proofs.Commanded.{Untouched, sessions_close, sessions_connect, sessions_die, sessions_send}
-use Rattle.aom_machine.proofs.Obeyed.{obeyed_stands, servers_below, typed_now, v}
-use Rattle.aom_machine.proofs.Obeying.{messages_close, messages_connect, messages_die, messages_send, sent_free, sent_name, free_name}
+use Rattle.aom_machine.proofs.Executed.{executed_stands, servers_below, typed_now, v}
+use Rattle.aom_machine.proofs.Executing.{messages_close, messages_connect, messages_die, messages_send, sent_free, sent_name, free_name}
 use Rattle.aom_machine.specs.Servers.{NotesIf}
-use Rattle.aom_machine.specs.Clients.{Acts, AreKept, CanAct, Forgets, IsInRange, Obeyed, asked_by, first_server, queue_changed}
+use Rattle.aom_machine.specs.Clients.{Acts, AreKept, CanAct, Forgets, IsInRange, Executed, asked_by, first_server, queue_changed}
 
 -- the line of an answer
-abbrev pub told_refusal : ℕ → Result (Unit {0}) CommandRefusal → List Line
-told_refusal c (Ok u) = []
-told_refusal c (Err r) = Refuse c (code_of r) ∷ []
+abbrev pub reported_refusal : ℕ → Result (Unit {0}) CommandRefusal → List Line
+reported_refusal c (Ok u) = []
+reported_refusal c (Err r) = Refuse c (code_of r) ∷ []
 
-same_refusal : (c : ℕ) (r : Option CommandRefusal) → told_refusal c (kept.answer r) ≡ refusal_line c r
+same_refusal : (c : ℕ) (r : Option CommandRefusal) → reported_refusal c (kept.answer r) ≡ refusal_line c r
 same_refusal c x = grind arith
 
 -- where a client is does not hang on the cell of its session
@@ -58,7 +58,7 @@ all_kept store [] once each = tt
 all_kept store (m ∷ ms) once each =
     (each m (ap (λ b. b || is_among m ms) (eq-eqb m m refl)), once.0, all_kept store ms once.1 (λ k e. each k (or_right (m == k) (is_among k ms) e)))
 
-module _ (p : Image) (m : Parts) (s : State) (st : StandsFor (record { image = p; parts = m }) s) (idle : s.tasks ≡ []) (c : ℕ) (one : c < 64) where
+module _ (p : Image) (m : Parts) (s : State) (st : Refines (record { image = p; parts = m }) s) (idle : s.tasks ≡ []) (c : ℕ) (one : c < 64) where
   abbrev same : SameClients m.clients s.cells s.clients
   same = st.agrees.services.clients
 
@@ -72,7 +72,7 @@ module _ (p : Image) (m : Parts) (s : State) (st : StandsFor (record { image = p
   -- the server that is found
   pub first_found : (class : ℕ) → first_server p m.listed class ≡ found_server (most_of (kind_of p (Some class))) (asked_server p class s.cells)
   first_found class = ap (λ o. option_map (λ n. record { cell = n; most = most_of (kind_of p (Some class)) }) o)
-      (first_asked p m.listed s.cells st.typed.good.tidy st.agrees.services.listed class) ∙ go (asked_server p class s.cells)
+      (first_asked p m.listed s.cells st.typed.good.no_duplicates st.agrees.services.listed class) ∙ go (asked_server p class s.cells)
     where
       go : (x : Option Listed) → option_map (λ n. record { cell = n; most = most_of (kind_of p (Some class)) })
           (option_map (λ (y : Listed). y.name) x) ≡ found_server (most_of (kind_of p (Some class))) x
@@ -101,11 +101,11 @@ module _ (p : Image) (m : Parts) (s : State) (st : StandsFor (record { image = p
   -- ---- what it comes to
 
   module _ (between : IsBetween s) (k : kept.State) (store : Store) (a : Active)
-      (told now : LineBuffer) (result : Result (Unit {0}) CommandRefusal) (lines : now ≡ record told { lines = told.lines ++ told_refusal c result }) where
-    abbrev old : Machine
+      (reported now : LineBuffer) (result : Result (Unit {0}) CommandRefusal) (lines : now ≡ record reported { lines = reported.lines ++ reported_refusal c result }) where
+    abbrev old : MachineModel
     old = record { image = p; parts = m }
 
-    abbrev new : Machine
+    abbrev new : MachineModel
     new = record { image = p; parts = record m { clients = k; messages = store; active = a; rest = record m.rest { delivered = suc m.rest.delivered } } }
 
     -- by what is made of clients and messages
@@ -113,8 +113,8 @@ module _ (p : Image) (m : Parts) (s : State) (st : StandsFor (record { image = p
         result ≡ kept.answer (refusal p c s command) → (then : kept.State) → k ≡ then →
         SameClients then (commanded p c w command (sent_name place)).cells (commanded p c w command (sent_name place)).clients → AreSized p.header.cells then →
         SessionsSame m.clients then → SameMessages p store (commanded p c w command (sent_name place)).cells → (server : Option ℕ) →
-        ((n : ℕ) → (server ≡ Some n → ⊥) → Untouched p c w command n) → NotesIf server k m.active a → Obeyed old s c command told now new
-    by_parts command place free answer then is clients sized sessions messages server touched hears =
+        ((n : ℕ) → (server ≡ Some n → ⊥) → Untouched p c w command n) → NotesIf server k m.active a → Executed old s c command reported now new
+    by_parts command place free answer then is clients sized sessions messages server touched observes =
         let unused = sent_free p m.cells m.messages s.cells st.agrees.cells st.sound.formed.header.cells st.agrees.services.messages place free in
         let clients_now =
         subst (λ x. SameClients x (commanded p c w command (sent_name place)).cells (commanded p c w command (sent_name place)).clients) (sym is) clients in
@@ -126,9 +126,9 @@ module _ (p : Image) (m : Parts) (s : State) (st : StandsFor (record { image = p
             between = between;
             state = commanded p c w command (sent_name place);
             goes = refl;
-            lines = lines ∙ ap (λ ls. record told { lines = told.lines ++ ls }) (ap (told_refusal c) answer ∙ same_refusal c (refusal p c s command));
-            stands = obeyed_stands p m s st idle c command (sent_name place) unused
-                (high place) k store a clients_now sized_now sessions_now messages server touched hears;
+            lines = lines ∙ ap (λ ls. record reported { lines = reported.lines ++ ls }) (ap (reported_refusal c) answer ∙ same_refusal c (refusal p c s command));
+            stands = executed_stands p m s st idle c command (sent_name place) unused
+                (high place) k store a clients_now sized_now sessions_now messages server touched observes;
           },
         )
       where
@@ -144,9 +144,9 @@ module _ (p : Image) (m : Parts) (s : State) (st : StandsFor (record { image = p
     withdraws f = messages_withdrawn p st.typing st.sound.wired w (typed_now p m s st idle c) st.kept.fit m.clients same c m.messages store f.gone f.others
         f.limit f.count st.agrees.services.messages
 
-    pub obeys : (command : ClientCommand) → Acts c command (asked_by p m.listed command) m.clients k m.messages store result →
-        NotesIf (queue_changed (asked_by p m.listed command) (kept.client_at m.clients c)) k m.active a → Obeyed old s c command told now new
-    obeys (Connect class slots) acts hears = by_parts (Connect class slots) None tt (acts.0 ∙ ap (λ x. kept.answer (kept.connect_refusal c x m.clients))
+    pub executes : (command : ClientCommand) → Acts c command (asked_by p m.listed command) m.clients k m.messages store result →
+        NotesIf (queue_changed (asked_by p m.listed command) (kept.client_at m.clients c)) k m.active a → Executed old s c command reported now new
+    executes (Connect class slots) acts observes = by_parts (Connect class slots) None tt (acts.0 ∙ ap (λ x. kept.answer (kept.connect_refusal c x m.clients))
         (first_found class) ∙ ap kept.answer (connect_refused p c s m.clients same class slots)) (kept.after_connect c (found_server (most_of (kind_of p
         (Some class))) (asked_server p class s.cells)) slots m.clients) (acts.1 ∙ ap (λ x. kept.after_connect c x slots m.clients) (first_found class))
         (same_connect p st.typing st.sound.wired w (typed_now p m s st idle c) st.kept.fit m.clients same p.header.cells st.agrees.services.sized
@@ -155,19 +155,19 @@ module _ (p : Image) (m : Parts) (s : State) (st : StandsFor (record { image = p
         (messages_connect p c w m.clients same m.messages store st.agrees.services.messages class slots (sent_name None) acts.2)
         (queue_changed (first_server p m.listed class) (kept.client_at m.clients c))
         (λ n away x asked name. away (ap (λ y. queue_changed y (kept.client_at m.clients c)) (first_found class)
-        ∙ ap (λ y. queue_changed (found_server (most_of (kind_of p (Some class))) y) (kept.client_at m.clients c)) asked ∙ ap Some name)) hears
-    obeys (Send words) acts hears = by_parts (Send words) acts.place acts.free (acts.told ∙ ap kept.answer alike) (kept.after_send c acts.place m.clients)
+        ∙ ap (λ y. queue_changed (found_server (most_of (kind_of p (Some class))) y) (kept.client_at m.clients c)) asked ∙ ap Some name)) observes
+    executes (Send words) acts observes = by_parts (Send words) acts.place acts.free (acts.reported ∙ ap kept.answer alike) (kept.after_send c acts.place m.clients)
         acts.after_it (same_send p st.typing st.sound.wired w (typed_now p m s st idle c) st.kept.fit m.clients same p.header.cells st.agrees.services.sized
         (servers_below p m s st idle c) c one words acts.place found (by_place acts.place acts.free) (sent_name acts.place) (called acts.place)) (sized_send
         p.header.cells m.clients st.agrees.services.sized c acts.place) (sessions_send m.clients c acts.place) (messages_send p c w m.clients same m.messages
-        store st.agrees.services.messages words acts.place acts.free alike acts.kept) (queue_changed None (kept.client_at m.clients c)) away_named hears
+        store st.agrees.services.messages words acts.place acts.free alike acts.kept) (queue_changed None (kept.client_at m.clients c)) away_named observes
       where
         found : is_some acts.place ≡ nat_lt (count_messages s.cells) p.header.messages
         found = acts.found ∙ ap (λ n. nat_lt n m.messages.limit) st.agrees.services.messages.count
             ∙ ap (λ n. nat_lt (count_messages s.cells) n) st.agrees.services.messages.limit
 
         alike : kept.send_refusal c acts.place m.clients ≡ refusal p c s (Send words)
-        alike = send_refused p c s m.clients same (typed_now p m s st idle c).good.tidy words acts.place found
+        alike = send_refused p c s m.clients same (typed_now p m s st idle c).good.no_duplicates words acts.place found
 
         by_place : (place : Option ℕ) → IfSome place (λ n. (n < 1024) × (message_at m.messages n ≡ None)) → (n : ℕ) → place ≡ Some n →
             (n < 1024) × (named s.cells (message_name n) ≡ None)
@@ -177,11 +177,11 @@ module _ (p : Image) (m : Parts) (s : State) (st : StandsFor (record { image = p
         called : (place : Option ℕ) (n : ℕ) → place ≡ Some n → sent_name place ≡ message_name n
         called None n e = absurd (none-some n e)
         called (Some k) n e = ap message_name (same_Some k n e)
-    obeys Close acts hears = by_parts Close None tt acts.0 (kept.after_close c m.clients) acts.1 (same_close p st.typing st.sound.wired w
+    executes Close acts observes = by_parts Close None tt acts.0 (kept.after_close c m.clients) acts.1 (same_close p st.typing st.sound.wired w
         (typed_now p m s st idle c) st.kept.fit m.clients same p.header.cells st.agrees.services.sized (servers_below p m s st idle c) c one (sent_name None))
         (sized_close p.header.cells m.clients st.agrees.services.sized c) (sessions_close m.clients c few) (messages_close p c w m.clients same m.messages store
-        st.agrees.services.messages withdraws acts.2 (sent_name None)) (queue_changed None (kept.client_at m.clients c)) away_named hears
-    obeys Die acts hears = by_parts Die None tt acts.0 (kept.after_die c m.clients) acts.1 (same_die p st.typing st.sound.wired w
+        st.agrees.services.messages withdraws acts.2 (sent_name None)) (queue_changed None (kept.client_at m.clients c)) away_named observes
+    executes Die acts observes = by_parts Die None tt acts.0 (kept.after_die c m.clients) acts.1 (same_die p st.typing st.sound.wired w
         (typed_now p m s st idle c) st.kept.fit m.clients same p.header.cells st.agrees.services.sized (servers_below p m s st idle c) c one (sent_name None))
         (sized_die p.header.cells m.clients st.agrees.services.sized c) (sessions_die m.clients c few) (messages_die p c w m.clients same m.messages store
-        st.agrees.services.messages withdraws acts.2 (sent_name None)) (queue_changed None (kept.client_at m.clients c)) away_named hears
+        st.agrees.services.messages withdraws acts.2 (sent_name None)) (queue_changed None (kept.client_at m.clients c)) away_named observes

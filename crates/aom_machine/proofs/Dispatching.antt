@@ -6,10 +6,10 @@ use Rattle.std.specs.Prelude.{is_some, ◌||◌, option_map}
 use Rattle.std.specs.Int.{w32, cast_signed, cast_unsigned}
 use Rattle.std.proofs.lemmas.Bool.{eq-eqb, eqb-true, false≢true}
 use Rattle.std.proofs.lemmas.List.{length-replicate}
-use Rattle.aom_active.specs.Agrees.{Active}
+use Rattle.aom_active_objects.specs.Agrees.{Active}
 use Rattle.aom_cells.specs.Heap.{cell_at, class_at, class_of, null}
 use Rattle.aom_cells.specs.declared.cell.Cell.{Cell as Machine_cell}
-use Rattle.aom_classes.specs.Roles.{role_of}
+use Rattle.aom_link_conditions.specs.Roles.{role_of}
 use Rattle.aom_clients.specs.Clients as kept
 use Rattle.aom_clients.specs.Table.{sender, server_of, session_of}
 use Rattle.aom_clients.specs.declared.client.Client.{Client}
@@ -33,7 +33,7 @@ use Rattle.aom_semantics.specs.Requests.{part_of}
 use Rattle.aom_semantics.specs.Places.{Cell, Elsewhere, Entry as Entry_at, Field, Going, In_service, Object, Place, Queued, Register}
 use Rattle.aom_semantics.specs.Places.{Service, Session, changed, held, moved, named, service_of, same_place, word_field}
 use Rattle.aom_semantics.specs.Servers.{is_server, reserved, taken_first, has_more}
-use Rattle.aom_semantics.specs.State.{A_mark, Accepts, Dispatched, Frame, Goes, Inside, Of_server, Parts, Counters, Seat, Serves, State, Task, frame_of}
+use Rattle.aom_semantics.specs.State.{A_mark, Accepts, Dispatched, Frame, Goes, Inside, Of_server, Disconnects, Counters, OwnedObject, Serves, State, Task, frame_of}
 use Rattle.aom_semantics.specs.World.{message_words, parting_with, picked, serves_first, serving, taken_from as checked_taken, dispatched}
 use Rattle.aom_machine_state.specs.declared.parts.Parts.{Parts as Machine_parts}
 use Rattle.aom_machine_state.specs.Agrees.{Agrees, SameRequests, Represents, number, word_at}
@@ -42,16 +42,16 @@ use Rattle.aom_machine_state.specs.Services.{SameServices}
 use Rattle.aom_machine_state.specs.Serving.{SameClients, asked_by, message_name, Once}
 use Rattle.aom_machine_state.specs.Tokens.{SameTokens}
 use Rattle.aom_semantics.specs.Tokens.{awaited}
-use Rattle.aom_machine_state.specs.Stands.{StandsFor}
+use Rattle.aom_machine_state.specs.Stands.{Refines}
 use Rattle.aom_machine.proofs.MachineStateLemmas.{among_places, beside_served, cells_beside, cells_moved, entry_taken, is_at, listed_alike, listed_beside}
 use Rattle.aom_machine.proofs.MachineStateLemmas.{message_taken, messages_moved, messages_served, moves, names_same, natives_beside, natives_moved, places_in}
 use Rattle.aom_machine.proofs.MachineStateLemmas.{requests_moved, same_attended, same_next, same_released, served_written, services_moved, session_released}
-use Rattle.aom_machine.proofs.MachineStateLemmas.{sized_next, sized_released, tokens_beside, tokens_still, told_served, waiting_once}
+use Rattle.aom_machine.proofs.MachineStateLemmas.{sized_next, sized_released, tokens_beside, tokens_still, reported_served, waiting_once}
 use Rattle.aom_machine.proofs.MachineInstructionsLemmas.{Aside, begins, begun_frame, begun_registers, destructor_same, dying_shows, nothing_held, object_class}
 use Rattle.aom_machine.proofs.MachineInstructionsLemmas.{object_small, server_same, thing_is}
 use Rattle.aom_machine_instructions.specs.Going.{dying}
-use Rattle.aom_machine.specs.Servers.{Notes, accepting, attending, is_queued, parting, taken_from, told_words}
-use Rattle.aom_machine.proofs.Beginning.{ShowsIdle, begins_agrees, told_frame, words_shown}
+use Rattle.aom_machine.specs.Servers.{Notes, accepting, attending, is_queued, parting, taken_from, loaded_message_words}
+use Rattle.aom_machine.proofs.Beginning.{ShowsIdle, begins_agrees, reported_frame, words_shown}
 use Rattle.aom_machine.proofs.Noting.{noted_requests, waits_alike}
 use Rattle.aom_machine.proofs.Turning.{none_running}
 
@@ -63,7 +63,7 @@ served_object p x serves = grind (arith, nat_tests, message_plain p A_message)
 pub session_named : (n : ℕ) (k : Client) (name : ℕ) → session_with n k ≡ name → name < 4096 → session_of k ≡ Some name
 session_named n k name e small = grind (arith, nat_tests)
 
-module _ (p : Image) (m : Machine_parts) (s : State) (st : StandsFor (record { image = p; parts = m }) s) (idle : s.tasks ≡ []) (x : Seat)
+module _ (p : Image) (m : Machine_parts) (s : State) (st : Refines (record { image = p; parts = m }) s) (idle : s.tasks ≡ []) (x : OwnedObject)
     (lives : named s.cells x.object.name ≡ Some x.object) (serves : is_server p x.object.thing ≡ true) (class : ℕ) (is : class_at m.cells x.object.name
     ≡ Some class) (active : Active) (noted : Notes x.object.name (kept.after_next x.object.name m.clients) m.active active) where
   abbrev n : ℕ
@@ -126,7 +126,7 @@ module _ (p : Image) (m : Machine_parts) (s : State) (st : StandsFor (record { i
       (λ i other. ap (λ (v : Service). v.queue) (service_there s.cells n i (taken_first (service_of s.cells n)) other)) (is_queued k' n) waits noted
 
   tokens_taken : SameTokens p m.tokens cs
-  tokens_taken = grind (arith, nat_tests, tokens_beside p m.tokens s.cells, beside_served s.cells, told_served s.cells)
+  tokens_taken = grind (arith, nat_tests, tokens_beside p m.tokens s.cells, beside_served s.cells, reported_served s.cells)
 
   services_with : SameClients k' cs s.clients → SameServices p k' m.messages m.tokens m.listed cs s.clients
   services_with clients = record {
@@ -280,7 +280,7 @@ module _ (p : Image) (m : Machine_parts) (s : State) (st : StandsFor (record { i
     unowned_served d i = grind (arith, nat_tests, held_moved, held_served s.cells, none_served, unowned_taken d i)
 
     session_lives : named s.cells o.name ≡ Some o
-    session_lives = held_lives s.cells (Elsewhere (Session n c)) o st.typed.good.tidy there
+    session_lives = held_lives s.cells (Elsewhere (Session n c)) o st.typed.good.no_duplicates there
 
     session_is_object : is_object o.thing ≡ true
     session_is_object = session_object p n c st.typing s st.typed o there
@@ -303,8 +303,8 @@ module _ (p : Image) (m : Machine_parts) (s : State) (st : StandsFor (record { i
         let begun = begun_frame method o.name (Inside o (Elsewhere (Session n c)))
         (length (A_mark ∷ s.items)) refl (λ there. object_small p m s st.sound.formed st.agrees o session_lives session_is_object) in
         begins_agrees p served then_served (Server subject c (stages.Serves (record { number = o.name; class = class' })))
-        (Of_server x c (Serves o)) (told_words m.messages j f) attend_frame (none_running p m s st idle) aside_served
-        (told_frame m.messages j 5 f (frame_of method (Inside o (Elsewhere (Session n c))) (length (A_mark ∷ s.items)))
+        (Of_server x c (Serves o)) (loaded_message_words m.messages j f) attend_frame (none_running p m s st idle) aside_served
+        (reported_frame m.messages j 5 f (frame_of method (Inside o (Elsewhere (Session n c))) (length (A_mark ∷ s.items)))
         (message_words cs (message_name j)) begun) (x.place, grind (arith, nat_tests, object, server_thing, session_thing_so)) shows_served unowned_served
         (words_shown m.messages j cs (message_name j) f (length-replicate 16 null) (begun_registers method o.name) (λ w small. reads w small ∙ word_so w))
 
@@ -319,13 +319,13 @@ module _ (p : Image) (m : Machine_parts) (s : State) (st : StandsFor (record { i
     released = record taken { clients = kept.after_release c k' }
 
     abbrev below_tasks : List Task
-    below_tasks = Dispatched (Of_server x c Parts) ∷ []
+    below_tasks = Dispatched (Of_server x c Disconnects) ∷ []
 
     abbrev parting_state : State
     parting_state = record then { cells = moved gone_from (Going (length below_tasks)) cs; tasks = checked.begun p o (length s.items) below_tasks }
 
     part_lives : named s.cells o.name ≡ Some o
-    part_lives = held_lives s.cells gone_from o st.typed.good.tidy there
+    part_lives = held_lives s.cells gone_from o st.typed.good.no_duplicates there
 
     part_object : is_object o.thing ≡ true
     part_object = session_object p n c st.typing s st.typed o there
@@ -374,15 +374,15 @@ module _ (p : Image) (m : Machine_parts) (s : State) (st : StandsFor (record { i
 
     pub part_agrees : Agrees p (parting p o.name subject c taken) parting_state
     part_agrees =
-        let us = Ends (Server subject c stages.Parts) ∷ [] in
-        subst (λ ms. Agrees p (with_tasks (dying p m.cells o.name (Ends (Server subject c stages.Parts) ∷ ms)) released) parting_state) (sym (none_running p m
+        let us = Ends (Server subject c stages.Disconnects) ∷ [] in
+        subst (λ ms. Agrees p (with_tasks (dying p m.cells o.name (Ends (Server subject c stages.Disconnects) ∷ ms)) released) parting_state) (sym (none_running p m
         s st idle)) (begins p released (record then { cells = moved gone_from (Going 1) cs }) us below_tasks o.name (class_at m.cells o.name) o
         (length s.items) refl part_small (server_same p m s st.agrees o part_lives part_object) (destructor_same p m s st.agrees o part_lives part_object)
-        ((x.place, ap (λ t. Of_server (record { object = record { name = n; thing = t }; place = x.place }) c Parts) (sym server_thing)), tt) aside_released
+        ((x.place, ap (λ t. Of_server (record { object = record { name = n; thing = t }; place = x.place }) c Disconnects) (sym server_thing)), tt) aside_released
         (dying_shows p released (record then { cells = moved gone_from (Going 1) cs }) us below_tasks o.name cs gone_from
         (value_in [] m.cells m.entries.items (others taken)) (word_at []) refl (shows_taken (Close c) es at no_messages) refl refl
         (shows_taken (Close c) es at no_messages gone_from ∙ ap number there_now) nothing_going (λ q. session_released (others taken) us m.cells m.entries.items
-        c n numbered its_server q ∙ ap (λ i. changed (λ z. i) gone_from null q) (end_shows (Server subject c stages.Parts) q)) ended_word))
+        c n numbered its_server q ∙ ap (λ i. changed (λ z. i) gone_from null q) (end_shows (Server subject c stages.Disconnects) q)) ended_word))
       where
         nothing_going : held cs (Going 1) ≡ None
         nothing_going = held_served s.cells n (taken_first (service_of s.cells n)) (Going 1) ∙ nothing_at (Going 1) refl (shows (Going 1))

@@ -26,7 +26,7 @@ use Rattle.aom_machine_state.specs.Stands.{Stands}
 use Rattle.aom_machine_state.specs.declared.parts.Parts.{Parts}
 use Rattle.aom_machine.specs.Clients.{first_server}
 use Rattle.aom_machine.proofs.Turning.{class_in}
-use Rattle.aom_machine.proofs.MachineStateLemmas.{cell_of, class_told}
+use Rattle.aom_machine.proofs.MachineStateLemmas.{cell_of, class_reported}
 
 -- what is known of it
 pub record IsFirst (p : Image) (m : Parts) (class n : ℕ) : Type 0 where
@@ -64,7 +64,7 @@ first_known p m (s, st) class n first =
         let kind = of_servers (kind_of p (Some class)) (sym (ap (is_server p) thing) ∙ serves) in
         record {
           lives = ap is_some c.1;
-          is = class_in (cell_at m.cells n) class (class_told p m.cells s.cells n o st.agrees.cells lives object ∙ ap Some thing);
+          is = class_in (cell_at m.cells n) class (class_reported p m.cells s.cells n o st.agrees.cells lives object ∙ ap Some thing);
           below = (let small = st.agrees.cells.below n c.0 c.1 in let limit = st.agrees.cells.limit in let many = st.agrees.services.sized.queues in
               omega (arith, small, limit, many));
           most = kind.0;

@@ -9,7 +9,7 @@ use Rattle.aom_image.specs.declared.method.Role.TheVariants.{Error as Answers}
 use Rattle.aom_semantics.specs.Requests.{part_of}
 use Rattle.aom_semantics.specs.Moves.{answered, asking, dispatch_ends, failed, handled, main_ends, object_ends, stage_ends, step}
 use Rattle.aom_semantics.specs.Places.{Elsewhere, Object, Root, held}
-use Rattle.aom_semantics.specs.State.{Answered, Asks, Choice, Dispatch, Goes, Object_left, Of_main, Of_object, Of_server, Seat, Stage, State}
+use Rattle.aom_semantics.specs.State.{Answered, Asks, Choice, Dispatch, Goes, Object_left, Of_main, Of_object, Of_server, OwnedObject, Stage, State}
 
 -- it is not over, or nothing is at hand
 abbrev pub Lasts : State → Type 0
@@ -29,10 +29,10 @@ module _ (p : Image) (s : State) (going : s.rest.ended ≡ None) where
   answer_lasts : (answer : ℤ) → Lasts (answered p answer s)
   answer_lasts answer = either_lasts answer (int_eq answer (pos 0))
 
-  asking_lasts : (m : Option ℕ) (x : Seat) (code : ℤ) → Lasts (asking p m x code s)
+  asking_lasts : (m : Option ℕ) (x : OwnedObject) (code : ℤ) → Lasts (asking p m x code s)
   asking_lasts x y code = grind (arith, nat_tests, answer_lasts code)
 
-  stage_lasts : (x : Seat) (client : ℕ) (stage : Stage) → Lasts (stage_ends x client stage s)
+  stage_lasts : (x : OwnedObject) (client : ℕ) (stage : Stage) → Lasts (stage_ends x client stage s)
   stage_lasts x client y = grind arith
 
   end_lasts : (d : Dispatch) → Lasts (dispatch_ends p d s)

@@ -1,5 +1,5 @@
 mod Waiting
-mod Nexts
+mod NextPlaces
 mod Announcing
 mod Lasting
 mod Ranking
@@ -33,23 +33,23 @@ mod ByCommand
 mod Commanded
 mod Commands
 mod Forgotten
-mod Heard
+mod Observed
 mod Idle
 mod Noting
-mod Obeyed
-mod Obeying
+mod Executed
+mod Executing
 mod Queued
 mod Begun
 mod Staying
 pub mod MachineLemmas
-pub use Rattle.aom_active.proofs.ActiveLemmas
-pub use Rattle.aom_classes.proofs.ClassesLemmas
+pub use Rattle.aom_active_objects.proofs.ActiveObjectsLemmas
+pub use Rattle.aom_link_conditions.proofs.LinkConditionsLemmas
 pub use Rattle.aom_determinism.proofs.DeterminismLemmas
 pub use Rattle.aom_image.proofs.ImageLemmas
 pub use Rattle.aom_instructions.proofs.InstructionsLemmas
 pub use Rattle.aom_machine_instructions.proofs.MachineInstructionsLemmas
 pub use Rattle.aom_machine_state.proofs.MachineStateLemmas
-pub use Rattle.aom_progress.proofs.ProgressLemmas
+pub use Rattle.aom_termination.proofs.TerminationLemmas
 pub use Rattle.aom_safety.proofs.SafetyLemmas
 pub use Rattle.aom_scheduler.proofs.SchedulerLemmas
 pub use Rattle.aom_semantics.proofs.SemanticsLemmas

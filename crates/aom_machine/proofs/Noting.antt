@@ -3,9 +3,9 @@ use Rattle.std.proofs.lemmas.Bool.Decides.{nat_tests}
 use Rattle.std.proofs.Common.{arith, ap, Bool, cond, false, List, None, Option, refl, Some, subst, sym, true, ℕ, ◌==◌, ◌∙◌, ◌≡◌}
 use Rattle.std.specs.Prelude.{is_some}
 use Rattle.std.proofs.lemmas.Bool.{eqb-true}
-use Rattle.aom_machine.proofs.ActiveLemmas.{queue_same, standing_follows, told_server}
-use Rattle.aom_active.specs.Agrees.{Active, queue_in, queued}
-use Rattle.aom_active.specs.Meanings.{queued_anew}
+use Rattle.aom_machine.proofs.ActiveObjectsLemmas.{queue_same, status_is_determined, reported_server}
+use Rattle.aom_active_objects.specs.Agrees.{Active, queue_in, queued}
+use Rattle.aom_active_objects.specs.Meanings.{requeued}
 use Rattle.aom_clients.specs.Clients as kept
 use Rattle.aom_clients.specs.declared.client.Client.{Client}
 use Rattle.aom_image.specs.Image.{Image}
@@ -40,8 +40,8 @@ module _ (p : Image) (old new : Active) (cs ds : List Cell) (b : Beside cs ds) (
   request_of n asked = grind (arith, nat_tests)
 
   -- of that name the table tells whether it is a server
-  told : (n : ℕ) → is_some (requested cs n) ≡ true → is_kept_server (request_at old.table n) ≡ is_some (queued p ds n)
-  told n asked = grind (arith, nat_tests, request_of n asked, told_server old, kind_alone p, there n asked)
+  reported : (n : ℕ) → is_some (requested cs n) ≡ true → is_kept_server (request_at old.table n) ≡ is_some (queued p ds n)
+  reported n asked = grind (arith, nat_tests, request_of n asked, reported_server old, kind_alone p, there n asked)
 
   module _ (elsewhere : (n : ℕ) → (j == n) ≡ false → (service_of ds n).queue ≡ (service_of cs n).queue) where
     others : (n : ℕ) → is_some (requested cs n) ≡ true → (j == n) ≡ false → queued p cs n ≡ queued p ds n
@@ -53,7 +53,7 @@ module _ (p : Image) (old new : Active) (cs ds : List Cell) (b : Beside cs ds) (
       where
         go : (x : Bool) → is_kept_server (request_at old.table j) ≡ x → NotesBy x old new j waits → SameRequests p new ds
         go true serves asks = record {
-          stands = standing_follows new (requested cs) (requested ds) (queued_anew j (Some waits) (queued p cs)) (queued p ds) (λ n. sym (b.requests n))
+          stands = status_is_determined new (requested cs) (requested ds) (requeued j (Some waits) (queued p cs)) (queued p ds) (λ n. sym (b.requests n))
               (λ n asked. queues n (ap is_some (sym (b.requests n)) ∙ asked) (j == n) refl) (asks.stands (requested cs) (queued p cs) same.stands);
           limit = asks.limit ∙ same.limit;
         }
@@ -61,12 +61,12 @@ module _ (p : Image) (old new : Active) (cs ds : List Cell) (b : Beside cs ds) (
             queues : (n : ℕ) → is_some (requested cs n) ≡ true → (y : Bool) → (j == n) ≡ y → cond (j == n) (Some waits) (queued p cs n) ≡ queued p ds n
             queues n asked true e =
                 let name = eqb-true j n e in
-                let server : is_some (queued p ds n) ≡ true = sym (told n asked) ∙ ap (λ i. is_kept_server (request_at old.table i)) (sym name) ∙ serves in
+                let server : is_some (queued p ds n) ≡ true = sym (reported n asked) ∙ ap (λ i. is_kept_server (request_at old.table i)) (sym name) ∙ serves in
                 ap (λ y. cond y (Some waits) (queued p cs n)) e ∙ ap Some (is ∙ ap (λ i. has_more (service_of ds i).queue) name)
                 ∙ sym (of_server p (named ds n) (service_of ds n) server)
             queues n asked false e = ap (λ y. cond y (Some waits) (queued p cs n)) e ∙ others n asked e
         go false serves still = subst (λ a. SameRequests p a ds) (sym still) (record {
-          stands = standing_follows old (requested cs) (requested ds)
+          stands = status_is_determined old (requested cs) (requested ds)
               (queued p cs) (queued p ds) (λ n. sym (b.requests n)) (λ n asked. queues n (ap is_some (sym (b.requests n)) ∙ asked) (j == n) refl) same.stands;
           limit = same.limit;
         })
@@ -74,7 +74,7 @@ module _ (p : Image) (old new : Active) (cs ds : List Cell) (b : Beside cs ds) (
             queues : (n : ℕ) → is_some (requested cs n) ≡ true → (y : Bool) → (j == n) ≡ y → queued p cs n ≡ queued p ds n
             queues n asked true e =
                 let plain : is_some (queued p ds n) ≡ false =
-                sym (told n asked) ∙ ap (λ i. is_kept_server (request_at old.table i)) (sym (eqb-true j n e)) ∙ serves in
+                sym (reported n asked) ∙ ap (λ i. is_kept_server (request_at old.table i)) (sym (eqb-true j n e)) ∙ serves in
                 of_none (queued p cs n) (kind_alone p (named cs n) (service_of cs n) (service_of ds n)
                 ∙ ap (λ o. is_some (queue_in p o (service_of ds n))) (sym (there n asked)) ∙ plain) ∙ sym (of_none (queued p ds n) plain)
             queues n asked false e = others n asked e

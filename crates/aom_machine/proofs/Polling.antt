@@ -7,9 +7,9 @@ use Rattle.aom_image.specs.Image.{Image}
 use Rattle.aom_cells.specs.Heap.{Lives}
 use Rattle.aom_machine_state.specs.LineBuffer.{LineBuffer}
 use Rattle.aom_scheduler.specs.Requests.{is_pending, request_at}
-use Rattle.aom_machine.proofs.ActiveLemmas.{timer_anew}
-use Rattle.aom_active.specs.Agrees.{Active, queued, timer_in}
-use Rattle.aom_active.specs.Meanings.{Makes}
+use Rattle.aom_machine.proofs.ActiveObjectsLemmas.{timer_anew}
+use Rattle.aom_active_objects.specs.Agrees.{Active, queued, timer_in}
+use Rattle.aom_active_objects.specs.Meanings.{Makes}
 use Rattle.aom_determinism.specs.Owed.{owes, serves, serves_object}
 use Rattle.aom_machine.proofs.SafetyLemmas.{comes_asked, completed, fit_same, on_none, recorded_so, same_requested}
 use Rattle.aom_semantics.specs.Requests.{completed_with, on_request, recorded}
@@ -17,45 +17,45 @@ use Rattle.aom_semantics.specs.Natives.{is_outstanding_at, is_owed, is_served_by
 use Rattle.aom_semantics.specs.Places.{Object, Request, named, requested}
 use Rattle.aom_semantics.specs.State.{CompletedTwice, Goes, IsStuck, Counters, State, FitsWord}
 use Rattle.aom_semantics.specs.World.{AnswersWell, Completion, Polls, answered_by, past_native, turned, with_request}
-use Rattle.aom_progress.specs.Left.{is_entry}
-use Rattle.aom_machine.proofs.ProgressLemmas.{asked_same}
+use Rattle.aom_termination.specs.Left.{is_entry}
+use Rattle.aom_machine.proofs.TerminationLemmas.{asked_same}
 use Rattle.aom_machine_state.specs.declared.parts.Parts.{Parts}
 use Rattle.aom_machine_state.specs.declared.progress.Progress.TheVariants.{Turned}
 use Rattle.aom_machine_state.specs.Agrees.{Agrees, Represents, word_at}
 use Rattle.aom_machine_state.specs.Places.{value}
 use Rattle.aom_machine_state.specs.Progress.{progress_by}
 use Rattle.aom_machine.specs.Serving.{Finishes}
-use Rattle.aom_machine_state.specs.Stands.{Machine, Stands, StandsFor}
+use Rattle.aom_machine_state.specs.Stands.{MachineModel, Stands, Refines}
 use Rattle.aom_machine.specs.Turns.{Answers, Takes}
-use Rattle.aom_machine.proofs.MachineStateLemmas.{cell_of, natives_asked, pending_told, services_asked}
-use Rattle.aom_machine.proofs.Served.{Placed, coded, its_place, owes_in_all, served_object, untimed, untold}
+use Rattle.aom_machine.proofs.MachineStateLemmas.{cell_of, natives_asked, pending_reported, services_asked}
+use Rattle.aom_machine.proofs.Served.{Placed, coded, its_place, owes_in_all, served_object, untimed, unreported}
 use Rattle.aom_semantics.specs.Tokens.{awaited}
 use Rattle.aom_machine.proofs.Idle.{stands_idle}
 use Rattle.aom_machine.proofs.Timers.{timers_same}
 use Rattle.aom_machine.proofs.Turning.{alike, cells_then, machine_between, order_same, requests_asked, rest_turns, silent}
 
 -- what a native completes is outstanding there, in some state that the machine stands for
-abbrev pub IsOwed : Machine → (native : ℕ) → Option (ℕ × ℤ) → Type 0
-IsOwed m native completion = IfSome completion (λ x. (s : State) × StandsFor m s × (owes m.image s.cells native x.0 ≡ true))
+abbrev pub IsOwed : MachineModel → (native : ℕ) → Option (ℕ × ℤ) → Type 0
+IsOwed m native completion = IfSome completion (λ x. (s : State) × Refines m s × (owes m.image s.cells native x.0 ≡ true))
 
 -- from each state that it stands for the machine takes the poll that completes that
-abbrev pub PollsAll : (native : ℕ) → Option (ℕ × ℤ) → (old new : Machine) → Type 0
-PollsAll native completion old new = (s : State) → StandsFor old s → (answer : Option Completion) × Answers s.cells completion answer
-    × AnswersWell old.image s (Polls native answer) × ((told : LineBuffer) → Takes old s (Polls native answer) told told new)
+abbrev pub PollsAll : (native : ℕ) → Option (ℕ × ℤ) → (old new : MachineModel) → Type 0
+PollsAll native completion old new = (s : State) → Refines old s → (answer : Option Completion) × Answers s.cells completion answer
+    × AnswersWell old.image s (Polls native answer) × ((reported : LineBuffer) → Takes old s (Polls native answer) reported reported new)
 
 some_request : (q : Option Request) → is_owed q ≡ true → (r : Request) × (q ≡ Some r)
 some_request x e = grind arith
 
 module _ (p : Image) (m : Parts) (native : ℕ) where
-  abbrev was : Machine
+  abbrev was : MachineModel
   was = record { image = p; parts = m }
 
-  abbrev now : Active → Machine
+  abbrev now : Active → MachineModel
   now a = record { image = p; parts = record m { active = a; rest = record m.rest { polled = suc native } } }
 
   -- ---- the request of one cell
 
-  module _ (s : State) (st : StandsFor was s) (id : ℕ) (owed : owes p s.cells native id ≡ true) where
+  module _ (s : State) (st : Refines was s) (id : ℕ) (owed : owes p s.cells native id ≡ true) where
     both : (serves p s.cells native id ≡ true) × (is_owed (requested s.cells id) ≡ true)
     both = and_parts (serves p s.cells native id) (is_owed (requested s.cells id)) owed
 
@@ -69,7 +69,7 @@ module _ (p : Image) (m : Parts) (native : ℕ) where
     lives_pending = (
       ap is_some (cell_of p m.cells s.cells id it.cell.object st.agrees.cells it.lives
           (served_object p native it.cell.object.thing (sym (ap (serves_object p native) it.lives) ∙ both.0))).1,
-      pending_told (request_at m.active.table id) (requested s.cells id) (queued p s.cells id) (st.agrees.requests.stands.tells id)
+      pending_reported (request_at m.active.table id) (requested s.cells id) (queued p s.cells id) (st.agrees.requests.stands.reports id)
           (coded p m s st native id both.0) both.1,
     )
 
@@ -104,7 +104,7 @@ module _ (p : Image) (m : Parts) (native : ℕ) where
 
         -- it waited for no token, and waits for none
         waits_for_none : awaited (on_request f (requested s.cells object.name)) ≡ awaited (requested s.cells object.name)
-        waits_for_none = ap (λ q. awaited (on_request f q)) asked ∙ sym (ap (λ n. awaited (requested s.cells n)) it.name ∙ untold p m s st native id both.0)
+        waits_for_none = ap (λ q. awaited (on_request f q)) asked ∙ sym (ap (λ n. awaited (requested s.cells n)) it.name ∙ unreported p m s st native id both.0)
 
         polled_agrees : Agrees p (now a).parts then
         polled_agrees = record {
@@ -121,7 +121,7 @@ module _ (p : Image) (m : Parts) (native : ℕ) where
           entry_room = st.agrees.entry_room;
         }
 
-        polled_stands : StandsFor (now a) then
+        polled_stands : Refines (now a) then
         polled_stands = stands_idle p m s st idle (now a).parts (with_request f object s.cells) s.clients counts s.killed
             (completed p st.typing s st.typed idle (recorded code) (recorded_so code) object counts) (fit_same p s.clients s.cells _
             (same_requested s.cells object (on_request f (requested s.cells object.name)) (λ e. on_none f (requested s.cells object.name) e)) st.kept.fit)
@@ -153,7 +153,7 @@ module _ (p : Image) (m : Parts) (native : ℕ) where
   module _ (turned_now : progress_by m.rest.ended m.stack.tasks ≡ Turned) where
     nothing : PollsAll native None was (now m.active)
     nothing s st =
-        (None, tt, tt, λ told. rest_turns p m turned_now (Polls native None) (λ r. record r { polled = suc native }) (λ s. (refl, refl)) (λ r. refl) told s st)
+        (None, tt, tt, λ reported. rest_turns p m turned_now (Polls native None) (λ r. record r { polled = suc native }) (λ s. (refl, refl)) (λ r. refl) reported s st)
 
     pub polls_well : (completion : Option (ℕ × ℤ)) (a : Active) →
         IfSome completion (λ x. FitsWord x.1) → IsOwed was native completion → Finishes completion m.active a → PollsAll native completion was (now a)

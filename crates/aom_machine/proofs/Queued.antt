@@ -6,22 +6,22 @@ use Rattle.std.specs.Prelude.{IfSome, IsSome, is_some, ◌||◌}
 use Rattle.std.proofs.lemmas.Bool.{cases_lt, eq-eqb, false≢true}
 use Rattle.std.proofs.lemmas.List.{get_or_past, nil_from_length}
 use Rattle.std.proofs.lemmas.Option.{none-some, same_Some}
-use Rattle.aom_active.specs.Agrees.{Active}
+use Rattle.aom_active_objects.specs.Agrees.{Active}
 use Rattle.aom_cells.specs.Heap.{cell_at, class_of}
 use Rattle.aom_cells.specs.declared.cell.Cell.{Cell as Machine_cell}
-use Rattle.aom_classes.specs.Roles.{role_of}
+use Rattle.aom_link_conditions.specs.Roles.{role_of}
 use Rattle.aom_clients.specs.Clients as kept
 use Rattle.aom_clients.specs.Table.{sender}
 use Rattle.aom_clients.specs.declared.entry.QueueEntry.{QueueEntry}
 use Rattle.aom_clients.specs.declared.entry.QueueEntry.TheVariants.{Close, Connect, Message}
-use Rattle.aom_clients.specs.declared.entry.Taken.{Taken}
+use Rattle.aom_clients.specs.declared.entry.TakenEntry.{TakenEntry}
 use Rattle.aom_clients.specs.declared.place.MessagePlace.TheVariants.{Free}
 use Rattle.aom_image.specs.Image.{Image}
 use Rattle.aom_image.specs.declared.method.Role.TheVariants.{Accept as Accepts_role, Service as Attends_role}
 use Rattle.aom_image.specs.declared.method.Thing.{Thing}
 use Rattle.aom_image.specs.declared.method.Thing.TheVariants.{Object as An_object_of}
 use Rattle.aom_roles.specs.Things.{is_object}
-use Rattle.aom_cells.specs.Store.{IsKept}
+use Rattle.aom_cells.specs.Store.{IsStored}
 use Rattle.aom_machine.proofs.SemanticsLemmas.{held_lives}
 use Rattle.aom_machine.proofs.SafetyLemmas.{at_rest, session_object}
 use Rattle.aom_safety.specs.Claims.{items_of}
@@ -29,13 +29,13 @@ use Rattle.aom_semantics.specs.Requests.{part_of}
 use Rattle.aom_safety.specs.Kept.{EntryFits, QueueFits, asked_again}
 use Rattle.aom_semantics.specs.Places.{Elsewhere, Object, Session, held, named, service_of}
 use Rattle.aom_semantics.specs.Servers.{is_server}
-use Rattle.aom_semantics.specs.State.{Seat, State}
-use Rattle.aom_safety.specs.WellTyped.{Keeps}
+use Rattle.aom_semantics.specs.State.{OwnedObject, State}
+use Rattle.aom_safety.specs.WellTyped.{PreservesTyping}
 use Rattle.aom_semantics.specs.World.{attended, parting_with, picked, serves_first, taken_from}
 use Rattle.aom_machine_state.specs.declared.parts.Parts.{Parts as Machine_parts}
 use Rattle.aom_machine_state.specs.Agrees.{number, thing_in}
 use Rattle.aom_machine_state.specs.Serving.{SameClients, asked_by, message_name}
-use Rattle.aom_machine_state.specs.Stands.{StandsFor}
+use Rattle.aom_machine_state.specs.Stands.{Refines}
 use Rattle.aom_machine.proofs.MachineStateLemmas.{AllWait, among_places, is_at, leaving_below, messages_wait, none_alike, open_below, same_items_length}
 use Rattle.aom_machine.proofs.MachineStateLemmas.{waiting_kept}
 use Rattle.aom_machine.proofs.MachineInstructionsLemmas.{class_fits, none_formed, object_class, object_small}
@@ -48,7 +48,7 @@ class_in : (c : Option Machine_cell) (t : Thing) → thing_in c ≡ Some t → (
 class_in None t e = absurd (none-some t e)
 class_in (Some c) t e = (c.class, refl, sym (same_Some _ _ e))
 
-module _ (p : Image) (m : Machine_parts) (s : State) (st : StandsFor (record { image = p; parts = m }) s) where
+module _ (p : Image) (m : Machine_parts) (s : State) (st : Refines (record { image = p; parts = m }) s) where
   same : SameClients m.clients s.cells s.clients
   same = st.agrees.services.clients
 
@@ -62,7 +62,7 @@ module _ (p : Image) (m : Machine_parts) (s : State) (st : StandsFor (record { i
   pub its_session : (n c : ℕ) (o : Object) → c < 64 → held s.cells (Elsewhere (Session n c)) ≡ Some o →
       (class : ℕ) × HasSession m c o.name class × (o.thing ≡ An_object_of class)
   its_session n c o client there =
-      let lives = held_lives s.cells (Elsewhere (Session n c)) o st.typed.good.tidy there in
+      let lives = held_lives s.cells (Elsewhere (Session n c)) o st.typed.good.no_duplicates there in
       let object = session_object p n c st.typing s st.typed o there in
       let x = its_class o lives object in (
         x.0,
@@ -75,8 +75,8 @@ module _ (p : Image) (m : Machine_parts) (s : State) (st : StandsFor (record { i
         x.2,
       )
 
-  module _ (idle : s.tasks ≡ []) (x : Seat) (lives : named s.cells x.object.name ≡ Some x.object) (serves : is_server p x.object.thing ≡ true)
-      (keeps : Keeps p st.typing (picked p x s)) where
+  module _ (idle : s.tasks ≡ []) (x : OwnedObject) (lives : named s.cells x.object.name ≡ Some x.object) (serves : is_server p x.object.thing ≡ true)
+      (keeps : PreservesTyping p st.typing (picked p x s)) where
     abbrev n : ℕ
     n = x.object.name
 
@@ -90,7 +90,7 @@ module _ (p : Image) (m : Machine_parts) (s : State) (st : StandsFor (record { i
     queue_so es at = sym (same.queues n) ∙ ap (map (asked_by m.clients.places)) at
 
     -- so it goes on, whatever waits first
-    pub first_keeps : (es : List QueueEntry) → queue ≡ es → Keeps p st.typing (serves_first p x (map (asked_by m.clients.places) es) s)
+    pub first_keeps : (es : List QueueEntry) → queue ≡ es → PreservesTyping p st.typing (serves_first p x (map (asked_by m.clients.places) es) s)
     first_keeps es at = grind (arith, nat_tests, queue_so es at)
 
     -- what waits first fits its client
@@ -115,7 +115,7 @@ module _ (p : Image) (m : Machine_parts) (s : State) (st : StandsFor (record { i
         get_or_past m.clients.places j Free,
       )
 
-      pub message_there : IsKept m.messages j
+      pub message_there : IsStored m.messages j
       message_there = waiting_kept p st.typing st.sound.wired s st.typed st.kept.fit m.clients same n m.messages st.agrees.services.messages j
           (among_places queue j ∙ ap (list_any (is_at j)) at ∙ ap (λ b. b || list_any (is_at j) es) (eq-eqb j j refl))
 
@@ -143,7 +143,7 @@ module _ (p : Image) (m : Machine_parts) (s : State) (st : StandsFor (record { i
         c : ℕ
         c = sender (kept.place_at m.clients j)
 
-        served : (h : Option Object) → Keeps p st.typing (attended p x c h (message_name j) (taken_from n s)) →
+        served : (h : Option Object) → PreservesTyping p st.typing (attended p x c h (message_name j) (taken_from n s)) →
             (o : Object) × (h ≡ Some o) × IsSome (part_of p Attends_role o.thing)
         served h k = grind arith
 
@@ -154,7 +154,7 @@ module _ (p : Image) (m : Machine_parts) (s : State) (st : StandsFor (record { i
         let y = its_session n c o.0 (closer_there c es at) o.1 in
         (o.0, o.1, (y.0, y.1))
       where
-        served : (h : Option Object) → Keeps p st.typing (parting_with p x c h (taken_from n s)) → (o : Object) × (h ≡ Some o)
+        served : (h : Option Object) → PreservesTyping p st.typing (parting_with p x c h (taken_from n s)) → (o : Object) × (h ≡ Some o)
         served h k = grind arith
 
     -- ---- so the machine can serve it
@@ -204,6 +204,6 @@ pub client_same : (m : Machine_parts) (n : ℕ) (e : QueueEntry) (es : List Queu
 client_same m n e es at c = grind (arith, nat_tests)
 
 -- and what serves it is there still
-pub take_again : (p : Image) (m : Machine_parts) (n : ℕ) (active : Active) (can : HasCaller p m n) (t : Taken) →
+pub take_again : (p : Image) (m : Machine_parts) (n : ℕ) (active : Active) (can : HasCaller p m n) (t : TakenEntry) →
     kept.first_entry m.clients (kept.queue_at m.clients n) ≡ Some t → CanTake p can.class t.client t.entry (machine_taken n active m)
 take_again p m n active can t waits = grind (arith, nat_tests, client_same m n, same, same_Some can.first)

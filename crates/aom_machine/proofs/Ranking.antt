@@ -7,22 +7,22 @@ use Rattle.aom_image.specs.Views.{method_at}
 use Rattle.aom_image.specs.declared.method.Method.{Method}
 use Rattle.aom_cells.specs.Heap.{null}
 use Rattle.aom_roles.specs.Tables.{at}
-use Rattle.aom_rules.specs.Typing.{Typing}
+use Rattle.aom_typing_rules.specs.Typing.{Typing}
 use Rattle.aom_semantics.specs.State.{Closing, Dispatch, Frame, Task, Trapped, Destroy, Unwind, Dispatched, Item, State}
 use Rattle.aom_safety.specs.WellTyped.{WellTyped}
 use Rattle.aom_frames.specs.declared.frame.Frame.{Frame as Machine_frame}
 use Rattle.aom_frames.specs.declared.task.Task.{Task as Machine_task}
 use Rattle.aom_frames.specs.declared.task.Task.TheVariants.{Trapped as Is_trap, Closing as Closes, Destroy as Destroys, Unwind as Unwinds, Dispatched as Ends}
 use Rattle.aom_frames.specs.declared.item.Item.{Item as Machine_item}
-use Rattle.aom_progress.specs.Worths.{over_worth}
-use Rattle.aom_progress.specs.Ranks.{closing_rank, price, rank_worths, left_in, end_rank, waiting_rank, tasks_rank, destructions, operations, rank}
-use Rattle.aom_machine.proofs.ProgressLemmas.{cells_stand_or_go, moves_lower_ranks, worth_alike}
+use Rattle.aom_termination.specs.RankTerms.{over_rank_term}
+use Rattle.aom_termination.specs.Ranks.{closing_rank, price, rank_worths, left_in, end_rank, waiting_rank, tasks_rank, destructions, operations, rank}
+use Rattle.aom_machine.proofs.TerminationLemmas.{cells_stand_or_go, moves_lower_ranks, rank_term_alike}
 use Rattle.aom_machine.proofs.SemanticsLemmas.{held_lives}
 use Rattle.aom_semantics.specs.Places.{Elsewhere, Going, Place, Root}
-use Rattle.aom_machine_state.specs.Agrees.{SameDispatch, dispatch_of, SameFrame, SameTasks, SameItems, Agrees, heard_by}
+use Rattle.aom_machine_state.specs.Agrees.{SameDispatch, dispatch_of, SameFrame, SameTasks, SameItems, Agrees, observed_by}
 use Rattle.aom_machine_state.specs.Places.{going_in, going_of}
 use Rattle.aom_machine.proofs.MachineInstructionsLemmas.{null_unnamed, object_there}
-use Rattle.aom_progress.specs.RankLaws.{GoesNoMessage}
+use Rattle.aom_termination.specs.RankLaws.{GoesNoMessage}
 use Rattle.aom_machine_state.specs.declared.parts.Parts.{Parts}
 use Rattle.aom_frames.specs.declared.dispatch.Dispatch.{Dispatch as Machine_dispatch}
 use Rattle.aom_machine.specs.Ranks.{ranked, operations_in, rank_in}
@@ -39,7 +39,7 @@ at_index none (x ∷ xs) zero = refl
 at_index none (x ∷ xs) (suc i) = at_index none xs i
 
 left_alike : (cs ds : List ℕ) → ((i : ℕ) → at 0 cs i ≡ at 0 ds i) → (o : Option Method) (place : ℕ) → left_in o cs place ≡ left_in o ds place
-left_alike cs ds alike x place = grind (arith, nat_tests, worth_alike)
+left_alike cs ds alike x place = grind (arith, nat_tests, rank_term_alike)
 
 -- ---- tasks that stand for each other have the same rank
 
@@ -56,9 +56,9 @@ end_alike p x d same = placed_alike p (Elsewhere Root) same.0 x ∙ ap (end_rank
 
 -- what a method begins as it ends hangs on what it stands over
 over_alike : (p : Image) (k : ℕ) (ms : List Machine_task) (us : List Task) → SameTasks ms us →
-    over_worth (rank_worths p) k (map ranked ms) ≡ over_worth (rank_worths p) k us
-over_alike p k = by_tasks (λ ms us. over_worth (rank_worths p) k (map ranked ms) ≡ over_worth (rank_worths p) k us) refl (λ m u ms us same _ e.
-    by_task (λ m u. over_worth (rank_worths p) k (map ranked (m ∷ ms)) ≡ over_worth (rank_worths p) k (u ∷ us)) (record {
+    over_rank_term (rank_worths p) k (map ranked ms) ≡ over_rank_term (rank_worths p) k us
+over_alike p k = by_tasks (λ ms us. over_rank_term (rank_worths p) k (map ranked ms) ≡ over_rank_term (rank_worths p) k us) refl (λ m u ms us same _ e.
+    by_task (λ m u. over_rank_term (rank_worths p) k (map ranked (m ∷ ms)) ≡ over_rank_term (rank_worths p) k (u ∷ us)) (record {
       runs = λ f fr same. refl;
       trapped = refl;
       destroys = λ x small. refl;
@@ -70,8 +70,8 @@ over_alike p k = by_tasks (λ ms us. over_worth (rank_worths p) k (map ranked ms
 -- a method, what it begins as it ends, and what waits
 runs_alike : (p : Image) (f : Machine_frame) (fr : Frame) (place place' : ℕ) (ms : List Machine_task) (us : List Task) → SameFrame f fr → place ≡ place' →
     SameTasks ms us → waiting_rank p (map ranked ms) ≡ waiting_rank p us →
-    left_in (method_at p f.method) f.counters place * price p f.method + (over_worth (rank_worths p) f.method (map ranked ms) + waiting_rank p (map ranked ms))
-    ≡ left_in (method_at p fr.method) fr.counters place' * price p fr.method + (over_worth (rank_worths p) fr.method us + waiting_rank p us)
+    left_in (method_at p f.method) f.counters place * price p f.method + (over_rank_term (rank_worths p) f.method (map ranked ms) + waiting_rank p (map ranked ms))
+    ≡ left_in (method_at p fr.method) fr.counters place' * price p fr.method + (over_rank_term (rank_worths p) fr.method us + waiting_rank p us)
 runs_alike p f fr place place' ms us same there below waits =
     grind (arith, nat_tests, frame_alike p f fr place place' same there, over_alike p fr.method ms us below)
 
@@ -137,7 +137,7 @@ goes_no_message : (p : Image) (t : Typing) (m : Parts) (s : State) → WellTyped
 goes_no_message p t m s typed agrees k o there = grind (
   arith,
   nat_tests,
-  held_lives s.cells (Going k) o typed.good.tidy there,
+  held_lives s.cells (Going k) o typed.good.no_duplicates there,
   null_unnamed p m s agrees,
   object_there p m s agrees o,
   goes_small m.stack.tasks s.tasks agrees.tasks k,
@@ -161,7 +161,7 @@ busy_state : (ms : List Machine_task) (us : List Task) → SameTasks ms us → 0
 busy_state ms us same busy = cons_given (λ vs. 0 < length vs) us (let even = same_length ms us same in omega arith) (λ none. omega arith) (λ u vs e _. (u, vs, e))
 
 pub moved_falls : (p : Image) (t : Typing) (refused : List ℕ) (m new : Parts) (s : State) → Sound p t → WellTyped p t s → Agrees p m s →
-    Moved p refused (heard_by m) t s new → 0 < length m.stack.tasks → rank_in p new < rank_in p m
+    Moved p refused (observed_by m) t s new → 0 < length m.stack.tasks → rank_in p new < rank_in p m
 moved_falls p t refused m new s sound typed agrees moved busy = grind (
   arith,
   nat_tests,

@@ -12,21 +12,21 @@ use Rattle.aom_roles.specs.Shapes.{kind_of}
 use Rattle.aom_machine.proofs.SemanticsLemmas.{named_name}
 use Rattle.aom_cells.specs.Heap.{class_at}
 use Rattle.aom_scheduler.specs.Requests.{request_at}
-use Rattle.aom_active.specs.Agrees.{timer_in}
+use Rattle.aom_active_objects.specs.Agrees.{timer_in}
 use Rattle.aom_machine.proofs.DeterminismLemmas.{native_served}
 use Rattle.aom_determinism.specs.Owed.{owes, serves}
 use Rattle.aom_semantics.specs.Requests.{is_unanswered, thing_kind}
 use Rattle.aom_semantics.specs.Natives.{is_owed, is_served_by, native_of}
 use Rattle.aom_semantics.specs.Places.{Cell, Object, Request, Timer, in_session, named, requested}
-use Rattle.aom_safety.specs.Requests.{Known, Suits, states_claim}
+use Rattle.aom_safety.specs.Requests.{Known, ConformsTo, states_claim}
 use Rattle.aom_semantics.specs.State.{State}
 use Rattle.aom_semantics.specs.Tokens.{awaited}
 use Rattle.aom_semantics.specs.World.{cell_at as standing_at}
-use Rattle.aom_machine.proofs.MachineStateLemmas.{held_owed, told_alike}
+use Rattle.aom_machine.proofs.MachineStateLemmas.{held_owed, reported_alike}
 use Rattle.aom_machine_state.specs.declared.parts.Parts.{Parts}
 use Rattle.aom_machine_state.specs.Messages.{is_a_message}
 use Rattle.aom_machine.specs.Serving.{serves_class}
-use Rattle.aom_machine_state.specs.Stands.{StandsFor}
+use Rattle.aom_machine_state.specs.Stands.{Refines}
 
 -- ---- where it stands
 
@@ -78,12 +78,12 @@ no_timer t e = grind arith
 no_order : (t : Option ℕ) → is_none t ≡ true → t ≡ None
 no_order t e = grind arith
 
-answered_by : (k : Option ClassKind) (n : ℕ) (known : Known) (q : Option Request) → native_of k ≡ Some n → Suits k known q → Answered q
-answered_by k n known q native suits = record { code = grind arith; timer = grind (arith, no_timer); token = grind (arith, no_order) }
+answered_by : (k : Option ClassKind) (n : ℕ) (known : Known) (q : Option Request) → native_of k ≡ Some n → ConformsTo k known q → Answered q
+answered_by k n known q native conforms_to = record { code = grind arith; timer = grind (arith, no_timer); token = grind (arith, no_order) }
 
 -- and what waits for a time waits for no token
-pub ticks_untold : (k : Option ClassKind) (known : Known) (q : Option Request) → Suits k known q → is_some (timer_in q) ≡ true → awaited q ≡ None
-ticks_untold k known q suits runs = grind (arith, no_order)
+pub ticks_unreported : (k : Option ClassKind) (known : Known) (q : Option Request) → ConformsTo k known q → is_some (timer_in q) ≡ true → awaited q ≡ None
+ticks_unreported k known q conforms_to runs = grind (arith, no_order)
 
 -- the objects of a class are served by the one native that does
 pub served_class : (p : Image) (native n : ℕ) (class : Option ℕ) → native_of (kind_of p class) ≡ Some n → (n == native) ≡ serves_class p native class
@@ -99,16 +99,16 @@ pub unserved_message : (p : Image) (native : ℕ) (t : Thing) → is_object t �
 unfolding kind_of
 unserved_message p native t e = grind arith
 
-unrequested : (p : Image) (t : Thing) → is_object t ≡ false → (known : Known) (q : Option Request) → Suits (thing_kind p t) known q → q ≡ None
+unrequested : (p : Image) (t : Thing) → is_object t ≡ false → (known : Known) (q : Option Request) → ConformsTo (thing_kind p t) known q → q ≡ None
 unfolding kind_of
-unrequested p t e known q suits = grind arith
+unrequested p t e known q conforms_to = grind arith
 
 -- so what is served is an object
 pub served_object : (p : Image) (native : ℕ) (t : Thing) → is_served_by p native t ≡ true → is_object t ≡ true
 unfolding kind_of
 served_object p native t served = grind arith
 
-module _ (p : Image) (m : Parts) (s : State) (st : StandsFor (record { image = p; parts = m }) s) (native id : ℕ) where
+module _ (p : Image) (m : Parts) (s : State) (st : Refines (record { image = p; parts = m }) s) (native id : ℕ) where
   lives_served : serves p s.cells native id ≡ true → is_some (named s.cells id) ≡ true
   lives_served served = grind (arith, nat_tests)
 
@@ -124,12 +124,12 @@ module _ (p : Image) (m : Parts) (s : State) (st : StandsFor (record { image = p
   pub untimed : serves p s.cells native id ≡ true → timer_in (requested s.cells id) ≡ None
   untimed served = (answered served).timer
 
-  pub untold : serves p s.cells native id ≡ true → awaited (requested s.cells id) ≡ None
-  untold served = (answered served).token
+  pub unreported : serves p s.cells native id ≡ true → awaited (requested s.cells id) ≡ None
+  unreported served = (answered served).token
 
   -- the machine finds its class
-  pub class_told : serves_class p native (class_at m.cells id) ≡ serves p s.cells native id
-  class_told = grind (arith, nat_tests, unserved_message p native)
+  pub class_reported : serves_class p native (class_at m.cells id) ≡ serves p s.cells native id
+  class_reported = grind (arith, nat_tests, unserved_message p native)
 
   -- a message has no request, and no session
   pub message_silent : (o : Object) → named s.cells id ≡ Some o → is_object o.thing ≡ false → (is_owed (requested s.cells id) || in_session s.cells id) ≡ false
@@ -139,8 +139,8 @@ module _ (p : Image) (m : Parts) (s : State) (st : StandsFor (record { image = p
       name = named_name s.cells id o lives
 
       none : requested s.cells id ≡ None
-      none = unrequested p o.thing message (states_claim p o st.typed.layers) (requested s.cells id) (subst (λ n. Suits (thing_kind p o.thing)
-          (states_claim p o st.typed.layers) (requested s.cells n)) name (st.typed.good.suits o (ap (named s.cells) name ∙ lives)))
+      none = unrequested p o.thing message (states_claim p o st.typed.layers) (requested s.cells id) (subst (λ n. ConformsTo (thing_kind p o.thing)
+          (states_claim p o st.typed.layers) (requested s.cells n)) name (st.typed.good.conforms_to o (ap (named s.cells) name ∙ lives)))
 
       past : (b : Bool) → nat_lt id 4096 ≡ b → p.header.cells ≤ id
       past true e = absurd (false≢true (sym (st.agrees.services.messages.past id (ltb-true id 4096 e)) ∙ ap is_a_message lives ∙ ap (λ b. not b) message))
@@ -155,10 +155,10 @@ module _ (p : Image) (m : Parts) (s : State) (st : StandsFor (record { image = p
 -- ---- what the table tells of it
 
 module _ (p : Image) (m : Parts) (native id : ℕ) where
-  owes_told : (s : State) → StandsFor (record { image = p; parts = m }) s →
+  owes_reported : (s : State) → Refines (record { image = p; parts = m }) s →
       owes p s.cells native id ≡ (serves_class p native (class_at m.cells id) && held_owed (request_at m.active.table id))
-  owes_told s st = grind (arith, nat_tests, class_told p m s st native id, told_alike)
+  owes_reported s st = grind (arith, nat_tests, class_reported p m s st native id, reported_alike)
 
-  pub owes_in_all : (s u : State) → StandsFor (record { image = p; parts = m }) s → StandsFor (record { image = p; parts = m }) u →
+  pub owes_in_all : (s u : State) → Refines (record { image = p; parts = m }) s → Refines (record { image = p; parts = m }) u →
       owes p s.cells native id ≡ true → owes p u.cells native id ≡ true
-  owes_in_all s u st su owed = owes_told u su ∙ sym (owes_told s st) ∙ owed
+  owes_in_all s u st su owed = owes_reported u su ∙ sym (owes_reported s st) ∙ owed

@@ -4,7 +4,7 @@ use Rattle.std.proofs.Common.{◌≡◌, ◌≤◌, ◌+◌, ℕ, ℤ, length, L
 use Rattle.std.proofs.lemmas.List.{length-append}
 use Rattle.aom_image.specs.Image.{Image}
 use Rattle.aom_semantics.specs.Cleanup.{arrival}
-use Rattle.aom_semantics.specs.Lines.{message_line, queue_lines, stage_lines, told_line}
+use Rattle.aom_semantics.specs.Lines.{message_line, queue_lines, stage_lines, reported_line}
 use Rattle.aom_semantics.specs.Moves.{announcement, goes_line, step, written, written_task}
 use Rattle.aom_semantics.specs.Places.{Cell, Going, Object, Sender, held}
 use Rattle.aom_semantics.specs.State.{A_mark, An_object, An_operation, Choice, Closing, Destroy, Dispatched, Goes, Item, Of_server, Counters, Run, Stage, State, Task, Trapped, Unwind}
@@ -25,11 +25,11 @@ going_one : (o : Option Object) → length (goes_line o) ≤ 1
 going_one x = grind (arith, nat_tests, of_thing)
 
 -- a completion is told by one line
-pub told_one : (code : ℤ) (m : Option Sender) → length (told_line code m) ≤ 1
-told_one code x = grind arith
+pub reported_one : (code : ℤ) (m : Option Sender) → length (reported_line code m) ≤ 1
+reported_one code x = grind arith
 
 message_one : (cs : List Cell) (o : Option Object) (code : ℤ) → length (message_line cs o code) ≤ 1
-message_one cs x code = grind (arith, nat_tests, told_one code)
+message_one cs x code = grind (arith, nat_tests, reported_one code)
 
 -- and so is the end of a stage
 stage_one : (cs : List Cell) (c : ℕ) (stage : Stage) → length (stage_lines cs c stage) ≤ 1

@@ -4,16 +4,16 @@ use Rattle.std.proofs.Common.{ap, Bool, List, None, Option, Some, [], false, ref
 use Rattle.std.specs.Prelude.{get_or, option_map}
 use Rattle.std.proofs.lemmas.Bool.{eqb-false, eqb-true, true≢false}
 use Rattle.std.proofs.lemmas.Option.{none-some, same_Some}
-use Rattle.aom_machine.proofs.ActiveLemmas.{Timely, first_timer, id_of, next_due_is, not_both, timely_kept, timely_without}
-use Rattle.aom_active.specs.Agrees.{Active, ComesSooner, StandsFor as Asks_for, queued, timer_in}
-use Rattle.aom_active.specs.Meanings.{asked_anew}
+use Rattle.aom_machine.proofs.ActiveObjectsLemmas.{Timely, first_timer, id_of, next_due_is, not_both, timely_kept, timely_without}
+use Rattle.aom_active_objects.specs.Agrees.{Active, ComesSooner, RefinesRequests as Asks_for, queued, timer_in}
+use Rattle.aom_active_objects.specs.Meanings.{asked_anew}
 use Rattle.aom_machine.proofs.SchedulerLemmas.{AreDistinct, at_head, without-at}
 use Rattle.aom_scheduler.specs.Pending as Held
 use Rattle.aom_scheduler.specs.declared.timer.Timer.{Timer as Machine_timer}
 use Rattle.aom_semantics.specs.Places.{Request, Timer}
 use Rattle.aom_semantics.specs.State.{State}
 use Rattle.aom_semantics.specs.World.{Timed, first_due}
-use Rattle.aom_machine_state.specs.Stands.{Machine, Stands, StandsFor}
+use Rattle.aom_machine_state.specs.Stands.{MachineModel, Stands, Refines}
 use Rattle.aom_machine.specs.Turns.{NoneDue}
 
 -- ---- one list
@@ -56,23 +56,23 @@ one_list asked (t ∷ ts) (u ∷ us) a b = go (t.id == u.id) refl (λ same. one_
 -- requests whose timers are the same
 pub timers_same : (old new : Active) (asked other : ℕ → Option Request) (queues then : ℕ → Option Bool) →
     ((n : ℕ) → timer_in (asked n) ≡ timer_in (other n)) → Asks_for old asked queues → Asks_for new other then → new.pending.timers ≡ old.pending.timers
-timers_same old new asked other queues then same a b = one_list other new.pending.timers old.pending.timers (record { dues = b.dues; sooner = b.sooner })
-    (timely_kept asked other old.pending.timers same (record { dues = a.dues; sooner = a.sooner }))
+timers_same old new asked other queues then same a b = one_list other new.pending.timers old.pending.timers (record { due_times = b.due_times; sooner = b.sooner })
+    (timely_kept asked other old.pending.timers same (record { due_times = a.due_times; sooner = a.sooner }))
 
 -- ---- none is due
 
 -- where none is due none is with the same timers at the same time
-pub none_due_still : (old new : Machine) → Stands old → new.parts.active.pending.timers ≡ old.parts.active.pending.timers →
-    new.parts.rest.clock ≡ old.parts.rest.clock → ((s : State) → StandsFor old s → NoneDue s) → (s : State) → StandsFor new s → NoneDue s
+pub none_due_still : (old new : MachineModel) → Stands old → new.parts.active.pending.timers ≡ old.parts.active.pending.timers →
+    new.parts.rest.clock ≡ old.parts.rest.clock → ((s : State) → Refines old s → NoneDue s) → (s : State) → Refines new s → NoneDue s
 none_due_still old new stands same clock none s st x e = go (first_due first.cells) refl
   where
     first : State
     first = stands.0
 
     due : Some x.timer.due ≡ option_map (λ y. y.timer.due) (first_due first.cells)
-    due = sym (next_due_is new.parts.active s.cells (queued new.image s.cells) st.typed.good.tidy st.agrees.requests.stands
+    due = sym (next_due_is new.parts.active s.cells (queued new.image s.cells) st.typed.good.no_duplicates st.agrees.requests.stands
         ∙ ap (option_map (λ y. y.timer.due)) e) ∙ ap Held.first_due same
-        ∙ next_due_is old.parts.active first.cells (queued old.image first.cells) stands.1.typed.good.tidy stands.1.agrees.requests.stands
+        ∙ next_due_is old.parts.active first.cells (queued old.image first.cells) stands.1.typed.good.no_duplicates stands.1.agrees.requests.stands
 
     go : (o : Option Timed) → first_due first.cells ≡ o → s.rest.clock < x.timer.due
     go None f = absurd (none-some _ (sym (due ∙ ap (option_map (λ y. y.timer.due)) f)))

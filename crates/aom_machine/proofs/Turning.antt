@@ -11,7 +11,7 @@ use Rattle.aom_image.specs.declared.method.Role.TheVariants.{Run as Handles}
 use Rattle.aom_image.specs.declared.method.Thing.{Thing}
 use Rattle.aom_image.specs.declared.method.Thing.TheVariants.{Object as An_object_of}
 use Rattle.aom_roles.specs.Things.{is_object}
-use Rattle.aom_rules.specs.Typing.{Typing}
+use Rattle.aom_typing_rules.specs.Typing.{Typing}
 use Rattle.aom_roles.specs.Tables.{at}
 use Rattle.aom_cells.specs.Heap.{Heap, cell_at, class_at, class_of, null}
 use Rattle.aom_cells.specs.declared.cell.Cell.{Cell as Machine_cell}
@@ -26,33 +26,33 @@ use Rattle.aom_frames.specs.declared.task.Task.TheVariants.{Dispatched as Ends, 
 use Rattle.aom_machine_state.specs.LineBuffer.{LineBuffer}
 use Rattle.aom_transcript.specs.declared.line.Ending.TheVariants.{Limit, Waiting}
 use Rattle.aom_transcript.specs.declared.line.Line.TheVariants.{Run as Run_line}
-use Rattle.aom_machine.proofs.ActiveLemmas.{are_wanted, asked_set, due_first, none_due, none_picked as none_chosen, picked as is_chosen, queued_same}
-use Rattle.aom_machine.proofs.ActiveLemmas.{standing_follows, told_server, told_state, told_status}
-use Rattle.aom_active.specs.Agrees.{Active, StandsFor as Asks_for, queued, timer_in}
-use Rattle.aom_active.specs.Meanings.{IsFirstDue, IsFirstReady, Makes, asked_anew}
-use Rattle.aom_active.specs.Meanings as meanings
+use Rattle.aom_machine.proofs.ActiveObjectsLemmas.{are_wanted, asked_set, due_first, none_due, none_picked as none_chosen, picked as is_chosen, queued_same}
+use Rattle.aom_machine.proofs.ActiveObjectsLemmas.{status_is_determined, reported_server, reported_state, reported_status}
+use Rattle.aom_active_objects.specs.Agrees.{Active, RefinesRequests as Asks_for, queued, timer_in}
+use Rattle.aom_active_objects.specs.Meanings.{IsFirstDue, IsFirstReady, Makes, asked_anew}
+use Rattle.aom_active_objects.specs.Meanings as meanings
 use Rattle.aom_scheduler.specs.Requests.{is_server as is_served, request_at}
-use Rattle.aom_machine.proofs.SafetyLemmas.{Alike, apart_still, at_rest, comes_asked, completed, fit_same, on_none, picked, picked_well, rerequested_alike}
+use Rattle.aom_machine.proofs.SafetyLemmas.{Alike, apart_still, at_rest, comes_asked, completed, fit_same, on_none, picked, picked_well, request_updated_alike}
 use Rattle.aom_machine.proofs.SafetyLemmas.{same_requested, signals_are_ready}
 use Rattle.aom_safety.specs.Claims.{items_of}
 use Rattle.aom_semantics.specs.Requests.{on_request, part_of, status_of, taken_up, timed_out}
 use Rattle.aom_semantics.specs.Tokens.{awaited}
 use Rattle.aom_semantics.specs.Servers.{has_more, is_server}
 use Rattle.aom_semantics.specs.Places.{Cell, Elsewhere, Object, Place, Register, Request, Root, Timer, held, named, requested, service_of}
-use Rattle.aom_semantics.specs.State.{Dispatch, Dispatched, Goes, Inside, Of_object, Counters, Seat, State}
-use Rattle.aom_safety.specs.WellTyped.{Keeps}
-use Rattle.aom_semantics.specs.World.{Candidate, Cuts, Hears, IsBetween, Passes, Picks, Timed, Turning, Waits, dispatched, serves_first, due_of, first_due}
+use Rattle.aom_semantics.specs.State.{Dispatch, Dispatched, Goes, Inside, Of_object, Counters, OwnedObject, State}
+use Rattle.aom_safety.specs.WellTyped.{PreservesTyping}
+use Rattle.aom_semantics.specs.World.{Candidate, Cuts, Observes, IsBetween, Passes, Picks, Timed, Turning, Waits, dispatched, serves_first, due_of, first_due}
 use Rattle.aom_semantics.specs.World.{first_ready, is_ready, picked as any_picked, run_line, turned, with_request, written_by, ready_count, signal_count}
-use Rattle.aom_machine.proofs.ProgressLemmas.{asked_same, picking}
-use Rattle.aom_progress.specs.Left.{is_entry}
-use Rattle.aom_progress.specs.Payers as payers
-use Rattle.aom_progress.specs.Payers.{declared_of, payer, price_of}
+use Rattle.aom_machine.proofs.TerminationLemmas.{asked_same, picking}
+use Rattle.aom_termination.specs.Left.{is_entry}
+use Rattle.aom_termination.specs.BudgetOwners as budget_owners
+use Rattle.aom_termination.specs.BudgetOwners.{declared_of, budget_owner, price_of}
 use Rattle.aom_machine_state.specs.declared.parts.Parts.{Parts}
 use Rattle.aom_machine_state.specs.declared.progress.Progress.TheVariants.{Turned}
-use Rattle.aom_machine_state.specs.Agrees.{Agrees, SameCells, SameRequests, SameTasks, Represents, seat_of, thing_in, thing_of, word_at}
+use Rattle.aom_machine_state.specs.Agrees.{Agrees, SameCells, SameRequests, SameTasks, Represents, owned_object_of, thing_in, thing_of, word_at}
 use Rattle.aom_machine_state.specs.Places.{Others, others, value, value_in}
 use Rattle.aom_machine_state.specs.Progress.{progress_by}
-use Rattle.aom_machine_state.specs.Stands.{KeepsWithin, Machine, Stands, StandsFor}
+use Rattle.aom_machine_state.specs.Stands.{KeepsWithin, MachineModel, Stands, Refines}
 use Rattle.aom_machine.specs.Steps.{progress}
 use Rattle.aom_machine.specs.Turns.{CanDispatch, Completed, Dispatches, Picked, TakesAll, running}
 use Rattle.aom_machine.proofs.MachineStateLemmas.{at_depth, cells_asked, going_past, mark_shows_none, natives_asked, none_alike, over_value, over_words}
@@ -61,13 +61,13 @@ use Rattle.aom_machine.proofs.MachineInstructionsLemmas.{agrees_rest, begun_fram
 use Rattle.aom_machine.proofs.MachineInstructionsLemmas.{none_formed, room_rest, thing_is, typed_rest, within_rest}
 use Rattle.aom_machine.proofs.Idle.{stands_idle}
 use Rattle.aom_machine.proofs.Progressing.{between, is_as_far}
-use Rattle.aom_machine.proofs.Served.{ticks_untold}
+use Rattle.aom_machine.proofs.Served.{ticks_unreported}
 
 -- ---- another request of a cell
 
 module _ (cs : List Cell) (o : Object) (f : Request → Request) where
   pub alike : Alike cs (with_request f o cs)
-  alike = rerequested_alike cs (Inside o (Elsewhere Root)) (on_request f (requested cs o.name))
+  alike = request_updated_alike cs (Inside o (Elsewhere Root)) (on_request f (requested cs o.name))
 
   pub cells_then : (p : Image) (h : Heap) → SameCells p h cs → SameCells p h (with_request f o cs)
   cells_then p h same = cells_asked p h cs o.name (on_request f (requested cs o.name)) same
@@ -75,7 +75,7 @@ module _ (cs : List Cell) (o : Object) (f : Request → Request) where
   pub requests_asked : (p : Image) (old new : Active) (r : Request) →
       named cs o.name ≡ Some o → requested cs o.name ≡ Some r → Makes old new o.name f → SameRequests p old cs → SameRequests p new (with_request f o cs)
   requests_asked p old new r lives is makes h = record {
-    stands = standing_follows new (asked_anew o.name (Some (f r)) (requested cs)) (requested (with_request f o cs)) (queued p cs)
+    stands = status_is_determined new (asked_anew o.name (Some (f r)) (requested cs)) (requested (with_request f o cs)) (queued p cs)
         (queued p (with_request f o cs)) now
         (λ n there. sym (queued_same p cs (with_request f o cs) alike.named_so alike.queues_so n)) (makes.stands (requested cs) (queued p cs) r h.stands is);
     limit = makes.limit ∙ h.limit;
@@ -91,26 +91,26 @@ order_same f same x = grind arith
 
 -- ---- nothing is at hand
 
-pub machine_between : (m : Machine) (s : State) → StandsFor m s → progress m ≡ Turned → IsBetween s
+pub machine_between : (m : MachineModel) (s : State) → Refines m s → progress m ≡ Turned → IsBetween s
 machine_between m s st turned = between s (sym (is_as_far m s st) ∙ turned)
 
 -- a turn that writes nothing
-pub silent : (told : LineBuffer) → told ≡ record told { lines = told.lines ++ [] }
-silent told = ap (λ ls. record told { lines = ls }) (sym (append-nil told.lines))
+pub silent : (reported : LineBuffer) → reported ≡ record reported { lines = reported.lines ++ [] }
+silent reported = ap (λ ls. record reported { lines = ls }) (sym (append-nil reported.lines))
 
 -- what no place tells is another
 pub stands_rest : (p : Image) (m : Parts) (s : State) (r r' : Counters) → r ≡ r' → r'.steps ≡ s.rest.steps →
-    StandsFor (record { image = p; parts = m }) s → StandsFor (record { image = p; parts = record m { rest = r } }) (record s { rest = r' })
+    Refines (record { image = p; parts = m }) s → Refines (record { image = p; parts = record m { rest = r } }) (record s { rest = r' })
 stands_rest p m s r r' same steps st = record {
   typing = st.typing;
   sound = st.sound;
   typed = typed_rest p st.typing s r' st.typed;
-  calm = st.calm;
+  only_quiet = st.only_quiet;
   traps = st.traps;
   room = room_rest p _ _ s r' st.room;
   waits = st.waits;
   kept = record { fit = st.kept.fit; stage = st.kept.stage; tokens = st.kept.tokens };
-  within = within_rest p st.sound.prices (declared_of p (payer s.tasks)) s r' steps st.within;
+  within = within_rest p st.sound.prices (declared_of p (budget_owner s.tasks)) s r' steps st.within;
   agrees = agrees_rest p m s r r' same st.agrees;
 }
 
@@ -118,24 +118,24 @@ stands_rest p m s r r' same steps st = record {
 pub rest_turns : (p : Image) (m : Parts) → progress_by m.rest.ended m.stack.tasks ≡ Turned →
     (part : Turning) (f : Counters → Counters) → ((s : State) → (turned p s part ≡ Goes (record s { rest = f s.rest })) × (written_by p s part ≡ [])) →
     ((r : Counters) → (f r).steps ≡ r.steps) → TakesAll (record { image = p; parts = m }) part (record { image = p; parts = record m { rest = f m.rest } })
-rest_turns p m over part f goes steps told s st = record {
+rest_turns p m over part f goes steps reported s st = record {
   between = machine_between (record { image = p; parts = m }) s st over;
   state = record s { rest = f s.rest };
   goes = (goes s).0;
-  lines = silent told ∙ ap (λ ls. record told { lines = told.lines ++ ls }) (sym (goes s).1);
+  lines = silent reported ∙ ap (λ ls. record reported { lines = reported.lines ++ ls }) (sym (goes s).1);
   stands = stands_rest p m s (f m.rest) (f s.rest) (ap f st.agrees.rest) (steps s.rest) st;
 }
 
 -- so it is of the machine as it is seen, which stands for a state again
-module _ (p : Image) (m : Parts) (view : Machine) (is : record { image = p; parts = m } ≡ view) (over : progress view ≡ Turned)
+module _ (p : Image) (m : Parts) (view : MachineModel) (is : record { image = p; parts = m } ≡ view) (over : progress view ≡ Turned)
     (stands : Stands (record { image = p; parts = m })) where
   seen_turns : (part : Turning) (f : Counters → Counters) →
       ((s : State) → (turned p s part ≡ Goes (record s { rest = f s.rest })) × (written_by p s part ≡ [])) → ((r : Counters) → (f r).steps ≡ r.steps) →
       TakesAll view part (record { image = p; parts = record m { rest = f m.rest } }) × Stands (record { image = p; parts = record m { rest = f m.rest } })
   seen_turns part f goes steps =
-      let takes = rest_turns p m (subst (λ (x : Machine). progress x ≡ Turned) (sym is) over) part f goes steps in
+      let takes = rest_turns p m (subst (λ (x : MachineModel). progress x ≡ Turned) (sym is) over) part f goes steps in
       let t = takes (record { lines = []; refused = []; room = 0 }) stands.0 stands.1 in
-      (subst (λ (x : Machine). TakesAll x part (record { image = p; parts = record m { rest = f m.rest } })) is takes, (t.state, t.stands))
+      (subst (λ (x : MachineModel). TakesAll x part (record { image = p; parts = record m { rest = f m.rest } })) is takes, (t.state, t.stands))
 
   -- time passes
   pub passes_time : (time : ℕ) → TakesAll view (Passes time) (record { image = p; parts = record m { rest = record m.rest { clock = time; polled = 0 } } }) ×
@@ -143,14 +143,14 @@ module _ (p : Image) (m : Parts) (view : Machine) (is : record { image = p; part
   passes_time time = seen_turns (Passes time) (λ r. record r { clock = time; polled = 0 }) (λ s. (refl, refl)) (λ r. refl)
 
   -- an event comes
-  pub hears_one : TakesAll view Hears (record { image = p; parts = record m { rest = record m.rest { delivered = suc m.rest.delivered } } }) ×
+  pub observes_one : TakesAll view Observes (record { image = p; parts = record m { rest = record m.rest { delivered = suc m.rest.delivered } } }) ×
       Stands (record { image = p; parts = record m { rest = record m.rest { delivered = suc m.rest.delivered } } })
-  hears_one = seen_turns Hears (λ r. record r { delivered = suc r.delivered }) (λ s. (refl, refl)) (λ r. refl)
+  observes_one = seen_turns Observes (λ r. record r { delivered = suc r.delivered }) (λ s. (refl, refl)) (λ r. refl)
 
   -- and what the machine stands for then it stood for before it
-  pub stands_back : (s : State) → StandsFor (record { image = p; parts = record m { rest = record m.rest { delivered = suc m.rest.delivered } } }) s →
-      StandsFor view (record s { rest = view.parts.rest })
-  stands_back s st = subst (λ (x : Machine). StandsFor x (record s { rest = x.parts.rest })) is (stands_rest p
+  pub stands_back : (s : State) → Refines (record { image = p; parts = record m { rest = record m.rest { delivered = suc m.rest.delivered } } }) s →
+      Refines view (record s { rest = view.parts.rest })
+  stands_back s st = subst (λ (x : MachineModel). Refines x (record s { rest = x.parts.rest })) is (stands_rest p
       (record m { rest = record m.rest { delivered = suc m.rest.delivered } }) s m.rest m.rest refl (ap (λ (r : Counters). r.steps) st.agrees.rest) st)
 
   -- the run is over
@@ -166,38 +166,38 @@ module _ (p : Image) (m : Parts) (view : Machine) (is : record { image = p; part
 due_same : (o : Option Timed) → option_map (λ x. x.timer.due) o ≡ due_of o
 due_same x = grind arith
 
-pub next_due_told : (m : Machine) (due : Option ℕ) → meanings.IsNextDue m.parts.active due → (s : State) → StandsFor m s → due ≡ due_of (first_due s.cells)
-next_due_told m due next s st = next s.cells (queued m.image s.cells) st.typed.good.tidy st.agrees.requests.stands ∙ due_same (first_due s.cells)
+pub next_due_reported : (m : MachineModel) (due : Option ℕ) → meanings.IsNextDue m.parts.active due → (s : State) → Refines m s → due ≡ due_of (first_due s.cells)
+next_due_reported m due next s st = next s.cells (queued m.image s.cells) st.typed.good.no_duplicates st.agrees.requests.stands ∙ due_same (first_due s.cells)
 
 -- and it counts the signals of the checked machine
-module _ (m : Machine) (count : ℕ) (counts : meanings.IsSignalCount m.parts.active count) (s : State) (st : StandsFor m s) where
-  pub signals_told : count ≡ signal_count s.cells
-  signals_told = counts s.cells (queued m.image s.cells) st.typed.good.tidy
+module _ (m : MachineModel) (count : ℕ) (counts : meanings.IsSignalCount m.parts.active count) (s : State) (st : Refines m s) where
+  pub signals_reported : count ≡ signal_count s.cells
+  signals_reported = counts s.cells (queued m.image s.cells) st.typed.good.no_duplicates
       (are_wanted m.image s.cells (λ o lives plain. (st.kept.fit.servers o lives plain).0)) st.agrees.requests.stands
 
   pub ready_between : s.tasks ≡ [] → count ≡ ready_count s.cells
-  ready_between idle = signals_told ∙ ((signals_are_ready m.image st.typing s st.typed).1 idle).count
+  ready_between idle = signals_reported ∙ ((signals_are_ready m.image st.typing s st.typed).1 idle).count
 
   pub ready_at_end : (d : Dispatch) → s.tasks ≡ Dispatched d ∷ [] → count ≡ ready_count s.cells
-  ready_at_end d ends = signals_told ∙ ((signals_are_ready m.image st.typing s st.typed).0 d ends).count
+  ready_at_end d ends = signals_reported ∙ ((signals_are_ready m.image st.typing s st.typed).0 d ends).count
 
 -- ---- a timer completes a request
 
 module _ (p : Image) (m : Parts) (a : Active) (turned : progress_by m.rest.ended m.stack.tasks ≡ Turned) where
-  abbrev before : Machine
+  abbrev before : MachineModel
   before = record { image = p; parts = m }
 
-  abbrev after : Machine
+  abbrev after : MachineModel
   after = record { image = p; parts = record m { active = a } }
 
-  module _ (s : State) (st : StandsFor before s) (o : Object) (r : Request) (lives : named s.cells o.name ≡ Some o)
-      (is : requested s.cells o.name ≡ Some r) (untold : awaited (requested s.cells o.name) ≡ None) (makes : Makes m.active a o.name timed_out) where
+  module _ (s : State) (st : Refines before s) (o : Object) (r : Request) (lives : named s.cells o.name ≡ Some o)
+      (is : requested s.cells o.name ≡ Some r) (unreported : awaited (requested s.cells o.name) ≡ None) (makes : Makes m.active a o.name timed_out) where
     abbrev timed : State
     timed = record s { cells = with_request timed_out o s.cells }
 
     -- it waited for no token, and waits for none
     waits_for_none : awaited (on_request timed_out (requested s.cells o.name)) ≡ awaited (requested s.cells o.name)
-    waits_for_none = ap (λ q. awaited (on_request timed_out q)) is ∙ sym untold
+    waits_for_none = ap (λ q. awaited (on_request timed_out q)) is ∙ sym unreported
 
     timed_agrees : Agrees p (record m { active = a }) timed
     timed_agrees = record {
@@ -214,7 +214,7 @@ module _ (p : Image) (m : Parts) (a : Active) (turned : progress_by m.rest.ended
       entry_room = st.agrees.entry_room;
     }
 
-    timed_stands : StandsFor after timed
+    timed_stands : Refines after timed
     timed_stands =
         let idle = (machine_between before s st turned).idle in
         let cs = with_request timed_out o s.cells in
@@ -226,25 +226,25 @@ module _ (p : Image) (m : Parts) (a : Active) (turned : progress_by m.rest.ended
 
   timer_completes : (id : ℕ) → Makes m.active a id timed_out → ((asked : ℕ → Option Request) (queues : ℕ → Option Bool) →
       Asks_for m.active asked queues → IsFirstDue m.rest.clock id asked) → Completed before true after
-  timer_completes id makes first told s st =
+  timer_completes id makes first reported s st =
       let f = first (requested s.cells) (queued p s.cells) st.agrees.requests.stands in
-      let d = due_first s.cells m.rest.clock id st.typed.good.tidy f in
+      let d = due_first s.cells m.rest.clock id st.typed.good.no_duplicates f in
       let r = has_timer (requested s.cells id) f.timer f.runs in
       let o = d.0.object in
       let same : o.name ≡ id = d.2 in
       let lives : named s.cells o.name ≡ Some o = ap (named s.cells) same ∙ d.3 in
       let is : requested s.cells o.name ≡ Some r.0 = ap (requested s.cells) same ∙ r.1 in
-      let untold : awaited (requested s.cells o.name) ≡ None = grind (arith, nat_tests, ticks_untold) in
+      let unreported : awaited (requested s.cells o.name) ≡ None = grind (arith, nat_tests, ticks_unreported) in
       let made = subst (λ n. Makes m.active a n timed_out) (sym same) makes in (
         d.0,
         d.1,
         omega (arith, d.4, ap (λ (r : Counters). r.clock) st.agrees.rest),
         record {
           between = machine_between before s st turned;
-          state = timed s st o r.0 lives is untold made;
+          state = timed s st o r.0 lives is unreported made;
           goes = refl;
-          lines = silent told;
-          stands = timed_stands s st o r.0 lives is untold made;
+          lines = silent reported;
+          stands = timed_stands s st o r.0 lives is unreported made;
         },
       )
     where
@@ -256,7 +256,7 @@ module _ (p : Image) (m : Parts) (a : Active) (turned : progress_by m.rest.ended
   nothing_due same none = (
     ap (λ x. record { image = p; parts = record m { active = x } }) same,
     λ s st x e.
-        let now = none_due s.cells m.rest.clock st.typed.good.tidy (none (requested s.cells) (queued p s.cells) st.agrees.requests.stands) x e in
+        let now = none_due s.cells m.rest.clock st.typed.good.no_duplicates (none (requested s.cells) (queued p s.cells) st.agrees.requests.stands) x e in
         subst (λ n. n < x.timer.due) (ap (λ (r : Counters). r.clock) st.agrees.rest) now,
   )
 
@@ -265,7 +265,7 @@ module _ (p : Image) (m : Parts) (a : Active) (turned : progress_by m.rest.ended
   due_completes (Some id) c = timer_completes id c.0 c.1
 
 -- and stands for a state again
-pub completed_again : (first last : Machine) (b : Bool) → Completed first b last → Stands first → Stands last
+pub completed_again : (first last : MachineModel) (b : Bool) → Completed first b last → Stands first → Stands last
 completed_again first last true c st = let t = (c (record { lines = []; refused = []; room = 0 }) st.0 st.1).3 in (t.state, t.stands)
 completed_again first last false c st = subst (λ m. Stands m) (sym c.0) st
 
@@ -276,7 +276,7 @@ pub class_in : (c : Option Machine_cell) (class : ℕ) → thing_in c ≡ Some (
 class_in o class e = grind arith
 
 -- its method that handles the signal is there, since the checked machine goes on with it
-has_method : (p : Image) (t : Typing) (x : Seat) (s : State) (o : Option ℕ) → Keeps p t (dispatched o x s) → IsSome o
+has_method : (p : Image) (t : Typing) (x : OwnedObject) (s : State) (o : Option ℕ) → PreservesTyping p t (dispatched o x s) → IsSome o
 has_method p t x s y k = grind arith
 
 has_class : (p : Image) (t : Thing) → IsSome (part_of p Handles t) → (class : ℕ) × (t ≡ An_object_of class)
@@ -300,7 +300,7 @@ no_word : (d : Dispatch) (q : Place) → word_at (Dispatched d ∷ []) q ≡ wor
 no_word d (Register k i) = at_depth 0 k None None (λ e. refl)
 no_word d _ = refl
 
-module _ (p : Image) (m : Parts) (s : State) (st : StandsFor (record { image = p; parts = m }) s) (idle : s.tasks ≡ []) where
+module _ (p : Image) (m : Parts) (s : State) (st : Refines (record { image = p; parts = m }) s) (idle : s.tasks ≡ []) where
   -- nothing is on the cleanup stack
   pub none_pushed : s.items ≡ []
   none_pushed = none_formed s.items (st.typed.items ∙ ap items_of (at_rest p st.typing s st.typed idle))
@@ -315,12 +315,12 @@ module _ (p : Image) (m : Parts) (s : State) (st : StandsFor (record { image = p
   pub record Found (id : ℕ) : Type 0 where
     pub candidate : Candidate
     pub first : first_ready s.cells ≡ Some candidate
-    pub name : candidate.seat.object.name ≡ id
-    pub lives : named s.cells id ≡ Some candidate.seat.object
-    pub holds : held s.cells candidate.seat.place ≡ Some candidate.seat.object
+    pub name : candidate.owned_object.object.name ≡ id
+    pub lives : named s.cells id ≡ Some candidate.owned_object.object
+    pub holds : held s.cells candidate.owned_object.place ≡ Some candidate.owned_object.object
     pub asked : requested s.cells id ≡ Some candidate.request
     pub goes : meanings.goes candidate.request (queued p s.cells id) ≡ true
-    pub keeps : Keeps p st.typing (any_picked p candidate.seat s)
+    pub keeps : PreservesTyping p st.typing (any_picked p candidate.owned_object s)
 
   -- the queues in which something waits are those of servers
   wanted : meanings.AreWanted (queued p s.cells) s.cells
@@ -328,7 +328,7 @@ module _ (p : Image) (m : Parts) (s : State) (st : StandsFor (record { image = p
 
   pub found_of : (id : ℕ) → IsFirstReady id (requested s.cells) (queued p s.cells) → Found id
   found_of id f =
-      let x = is_chosen s.cells (queued p s.cells) id st.typed.good.tidy wanted f in
+      let x = is_chosen s.cells (queued p s.cells) id st.typed.good.no_duplicates wanted f in
       record {
         candidate = x.0;
         first = x.1;
@@ -341,17 +341,17 @@ module _ (p : Image) (m : Parts) (s : State) (st : StandsFor (record { image = p
       }
 
   pub none_found : meanings.NoneReady (requested s.cells) (queued p s.cells) → first_ready s.cells ≡ None
-  none_found none = none_chosen s.cells (queued p s.cells) st.typed.good.tidy wanted none
+  none_found none = none_chosen s.cells (queued p s.cells) st.typed.good.no_duplicates wanted none
 
   -- what waits at it
-  queue_told : (id : ℕ) (k : Found id) (b : Bool) → is_server p k.candidate.seat.object.thing ≡ b →
+  queue_reported : (id : ℕ) (k : Found id) (b : Bool) → is_server p k.candidate.owned_object.object.thing ≡ b →
       queued p s.cells id ≡ cond b (Some (has_more (service_of s.cells id).queue)) None
-  queue_told id k b e = grind (arith, nat_tests)
+  queue_reported id k b e = grind (arith, nat_tests)
 
   -- whether it is a server the table tells
-  pub serving_told : (id : ℕ) (k : Found id) → is_served (request_at m.active.table id) ≡ is_server p k.candidate.seat.object.thing
-  serving_told id k = told_server m.active (requested s.cells) (queued p s.cells) st.agrees.requests.stands id k.candidate.request k.asked
-      ∙ ap is_some (queue_told id k (is_server p k.candidate.seat.object.thing) refl) ∙ some (is_server p k.candidate.seat.object.thing)
+  pub serving_reported : (id : ℕ) (k : Found id) → is_served (request_at m.active.table id) ≡ is_server p k.candidate.owned_object.object.thing
+  serving_reported id k = reported_server m.active (requested s.cells) (queued p s.cells) st.agrees.requests.stands id k.candidate.request k.asked
+      ∙ ap is_some (queue_reported id k (is_server p k.candidate.owned_object.object.thing) refl) ∙ some (is_server p k.candidate.owned_object.object.thing)
     where
       some : (b : Bool) → is_some (cond b (Some (has_more (service_of s.cells id).queue)) None) ≡ b
       some true = refl
@@ -359,26 +359,26 @@ module _ (p : Image) (m : Parts) (s : State) (st : StandsFor (record { image = p
 
   -- and so it does once the pick has taken the signal of an object
   pub serving_after : (id : ℕ) (k : Found id) (a : Active) →
-      meanings.TakesUp (is_served (request_at m.active.table id)) m.active a id → is_served (request_at a.table id) ≡ is_server p k.candidate.seat.object.thing
+      meanings.TakesUp (is_served (request_at m.active.table id)) m.active a id → is_served (request_at a.table id) ≡ is_server p k.candidate.owned_object.object.thing
   serving_after id k a takes = go (is_served (request_at m.active.table id)) refl takes
     where
       go : (b : Bool) → is_served (request_at m.active.table id) ≡ b → meanings.TakesUp b m.active a id →
-          is_served (request_at a.table id) ≡ is_server p k.candidate.seat.object.thing
-      go true e same = ap (λ x. is_served (request_at x.table id)) same ∙ serving_told id k
+          is_served (request_at a.table id) ≡ is_server p k.candidate.owned_object.object.thing
+      go true e same = ap (λ x. is_served (request_at x.table id)) same ∙ serving_reported id k
       go false e makes =
           let stands = makes.stands (requested s.cells) (queued p s.cells) k.candidate.request st.agrees.requests.stands k.asked in
           let then = here id (Some (taken_up k.candidate.request)) (requested s.cells) in
-          let plain = sym (serving_told id k) ∙ e in
-          told_server a (asked_anew id (Some (taken_up k.candidate.request)) (requested s.cells))
-          (queued p s.cells) stands id (taken_up k.candidate.request) then ∙ ap is_some (queue_told id k false plain) ∙ sym plain
+          let plain = sym (serving_reported id k) ∙ e in
+          reported_server a (asked_anew id (Some (taken_up k.candidate.request)) (requested s.cells))
+          (queued p s.cells) stands id (taken_up k.candidate.request) then ∙ ap is_some (queue_reported id k false plain) ∙ sym plain
 
   -- an object that is no server
   record Pick (id : ℕ) : Type 0 where
     found : Found id
     ready : is_ready found.candidate.request ≡ true
-    plain : is_server p found.candidate.seat.object.thing ≡ false
+    plain : is_server p found.candidate.owned_object.object.thing ≡ false
     unqueued : queued p s.cells id ≡ None
-    keeps : Keeps p st.typing (dispatched (part_of p Handles found.candidate.seat.object.thing) found.candidate.seat s)
+    keeps : PreservesTyping p st.typing (dispatched (part_of p Handles found.candidate.owned_object.object.thing) found.candidate.owned_object s)
 
   -- what is taken up waits for the token that it waited for
   same_waits : (q : Option Request) → awaited (on_request taken_up q) ≡ awaited q
@@ -387,24 +387,24 @@ module _ (p : Image) (m : Parts) (s : State) (st : StandsFor (record { image = p
   or_false : (b : Bool) → (b || false) ≡ b
   or_false x = grind arith
 
-  pick_of : (id : ℕ) (k : Found id) → is_server p k.candidate.seat.object.thing ≡ false → Pick id
+  pick_of : (id : ℕ) (k : Found id) → is_server p k.candidate.owned_object.object.thing ≡ false → Pick id
   pick_of id k plain =
-      let none = queue_told id k false plain in
+      let none = queue_reported id k false plain in
       record {
         found = k;
         ready = sym (or_false (is_ready k.candidate.request)) ∙ ap (λ q. meanings.goes k.candidate.request q) (sym none) ∙ k.goes;
         plain = plain;
         unqueued = none;
-        keeps = subst (λ b. Keeps p st.typing (cond b (serves_first p k.candidate.seat (service_of s.cells k.candidate.seat.object.name).queue s)
-            (dispatched (part_of p Handles k.candidate.seat.object.thing) k.candidate.seat s))) plain k.keeps;
+        keeps = subst (λ b. PreservesTyping p st.typing (cond b (serves_first p k.candidate.owned_object (service_of s.cells k.candidate.owned_object.object.name).queue s)
+            (dispatched (part_of p Handles k.candidate.owned_object.object.thing) k.candidate.owned_object s))) plain k.keeps;
       }
 
   module _ (id : ℕ) (k : Pick id) where
     abbrev object : Object
-    object = k.found.candidate.seat.object
+    object = k.found.candidate.owned_object.object
 
     its_method : IsSome (part_of p Handles object.thing)
-    its_method = has_method p st.typing k.found.candidate.seat s (part_of p Handles object.thing) k.keeps
+    its_method = has_method p st.typing k.found.candidate.owned_object s (part_of p Handles object.thing) k.keeps
 
     its_class : (c : ℕ) × (object.thing ≡ An_object_of c)
     its_class = has_class p object.thing its_method
@@ -419,7 +419,7 @@ module _ (p : Image) (m : Parts) (s : State) (st : StandsFor (record { image = p
       is = is;
       small = subst (λ o. IfSome o (λ c. c < 256)) is (class_fits p m s st.agrees id);
       handled = subst (λ t. IsSome (part_of p Handles t)) its_class.1 its_method;
-      enlisted = ap is_some (told_state a _ _ (makes.stands (requested s.cells) (queued p s.cells) k.found.candidate.request st.agrees.requests.stands
+      enlisted = ap is_some (reported_state a _ _ (makes.stands (requested s.cells) (queued p s.cells) k.found.candidate.request st.agrees.requests.stands
           k.found.asked) id (taken_up k.found.candidate.request) (here id (Some (taken_up k.found.candidate.request)) (requested s.cells)) k.unqueued);
       idle = none_running;
       bare = none_marked;
@@ -430,10 +430,10 @@ module _ (p : Image) (m : Parts) (s : State) (st : StandsFor (record { image = p
         is = class_in (cell_at m.cells id) its_class.0 (its_thing ∙ ap Some its_class.1)
 
     -- the dispatch that the machine begins is that of the checked machine
-    module _ (a : Active) (told now : LineBuffer) (new : Parts) (makes : Makes m.active a id taken_up)
-        (d : Dispatches p id (record m { active = a }) told now new) where
+    module _ (a : Active) (reported now : LineBuffer) (new : Parts) (makes : Makes m.active a id taken_up)
+        (d : Dispatches p id (record m { active = a }) reported now new) where
       abbrev then : State
-      then = picked d.method k.found.candidate.seat s
+      then = picked d.method k.found.candidate.owned_object s
 
       name : id ≡ object.name
       name = sym k.found.name
@@ -444,7 +444,7 @@ module _ (p : Image) (m : Parts) (s : State) (st : StandsFor (record { image = p
       method : part_of p Handles object.thing ≡ Some d.method
       method = ap (part_of p Handles) thing ∙ d.handles
 
-      goes : turned p s (Picks k.found.candidate.seat) ≡ Goes then
+      goes : turned p s (Picks k.found.candidate.owned_object) ≡ Goes then
       goes = grind (arith, nat_tests, method)
 
       lives : named s.cells object.name ≡ Some object
@@ -463,8 +463,8 @@ module _ (p : Image) (m : Parts) (s : State) (st : StandsFor (record { image = p
       dispatch_agrees : Agrees p (running d.method d.class id (record m { active = a })) then
       dispatch_agrees = record {
         tasks = (
-          begun_frame d.method id (Inside object k.found.candidate.seat.place) (length then.items) name small,
-          (tt, ((k.found.candidate.seat.place, seat), subst (λ us. SameTasks us []) (sym none_running) tt)),
+          begun_frame d.method id (Inside object k.found.candidate.owned_object.place) (length then.items) name small,
+          (tt, ((k.found.candidate.owned_object.place, owned_object), subst (λ us. SameTasks us []) (sym none_running) tt)),
         );
         values = values;
         cells = cells_then s.cells object taken_up p m.cells st.agrees.cells;
@@ -481,9 +481,9 @@ module _ (p : Image) (m : Parts) (s : State) (st : StandsFor (record { image = p
           subject : Subject
           subject = record { number = id; class = d.class }
 
-          seat : Of_object (seat_of k.found.candidate.seat.place subject) ≡ Of_object k.found.candidate.seat
-          seat = ap (λ n. Of_object (record { object = record { name = n; thing = An_object_of d.class }; place = k.found.candidate.seat.place })) name
-              ∙ ap (λ t. Of_object (record { object = record { name = object.name; thing = t }; place = k.found.candidate.seat.place })) (sym thing)
+          owned_object : Of_object (owned_object_of k.found.candidate.owned_object.place subject) ≡ Of_object k.found.candidate.owned_object
+          owned_object = ap (λ n. Of_object (record { object = record { name = n; thing = An_object_of d.class }; place = k.found.candidate.owned_object.place })) name
+              ∙ ap (λ t. Of_object (record { object = record { name = object.name; thing = t }; place = k.found.candidate.owned_object.place })) (sym thing)
 
           dispatch : List Machine_task
           dispatch = Ends (Of_one subject) ∷ m.stack.tasks
@@ -493,7 +493,7 @@ module _ (p : Image) (m : Parts) (s : State) (st : StandsFor (record { image = p
               (Is_mark ∷ m.entries.items) (others m) q ∙ begun_value (Of_one subject) m.stack.tasks m.cells m.entries.items (others m) q
 
           worded : (q : Place) → word_at then.tasks q ≡ word_at s.tasks q
-          worded q = grind (arith, nat_tests, fresh_word d.method, over_words, no_word (Of_object k.found.candidate.seat) q)
+          worded q = grind (arith, nat_tests, fresh_word d.method, over_words, no_word (Of_object k.found.candidate.owned_object) q)
 
           values : (q : Place) → Represents (value_in (Runs_frame (fresh d.method id) ∷ Is_trap ∷ dispatch) m.cells (Is_mark ∷ m.entries.items) (others m) q)
               (word_at then.tasks q) (held then.cells q)
@@ -505,23 +505,23 @@ module _ (p : Image) (m : Parts) (s : State) (st : StandsFor (record { image = p
         within = omega (
           arith,
           picking p st.typing st.sound.prices st.sound.wired.family st.sound.linked st.sound.affordable.priced s st.typed idle
-              (Picks k.found.candidate.seat) lives refl then goes,
+              (Picks k.found.candidate.owned_object) lives refl then goes,
           affords,
         );
       }
         where
-          affords : price_of p st.sound.prices (payers.class_of object.thing) ≤ declared_of p (payers.class_of object.thing)
+          affords : price_of p st.sound.prices (budget_owners.class_of object.thing) ≤ declared_of p (budget_owners.class_of object.thing)
           affords = grind (arith, nat_tests, thing)
 
-      dispatch_stands : StandsFor (record { image = p; parts = running d.method d.class id (record m { active = a }) }) then
+      dispatch_stands : Refines (record { image = p; parts = running d.method d.class id (record m { active = a }) }) then
       dispatch_stands = record {
         typing = st.typing;
         sound = st.sound;
-        typed = subst (λ h. Keeps p st.typing (dispatched h k.found.candidate.seat s)) method k.keeps;
-        calm = (λ clearing. absurd (true≢false (sym clearing)), (refl, tt));
+        typed = subst (λ h. PreservesTyping p st.typing (dispatched h k.found.candidate.owned_object s)) method k.keeps;
+        only_quiet = (λ clearing. absurd (true≢false (sym clearing)), (refl, tt));
         traps = (tt, (tt, tt));
         room = dispatches_with_room p (at 0 st.sound.depths.depths) st.sound.heights then.cells d.method
-            (Inside object k.found.candidate.seat.place) (Of_object k.found.candidate.seat) s.items then.rest s.killed s.clients none_pushed;
+            (Inside object k.found.candidate.owned_object.place) (Of_object k.found.candidate.owned_object) s.items then.rest s.killed s.clients none_pushed;
         waits = tt;
         kept = record {
           fit = fit_same p s.clients s.cells then.cells (same_requested s.cells object
@@ -535,32 +535,32 @@ module _ (p : Image) (m : Parts) (s : State) (st : StandsFor (record { image = p
 
       same_status : d.status ≡ status_of (requested s.cells object.name)
       same_status = same_Some _ _ (sym d.completed
-          ∙ told_status a _ _ (makes.stands (requested s.cells) (queued p s.cells) k.found.candidate.request st.agrees.requests.stands k.found.asked) id
+          ∙ reported_status a _ _ (makes.stands (requested s.cells) (queued p s.cells) k.found.candidate.request st.agrees.requests.stands k.found.asked) id
           (taken_up k.found.candidate.request) (here id (Some (taken_up k.found.candidate.request)) (requested s.cells)) k.unqueued) ∙ sym (ap status_of asked)
 
       same_line : Run_line m.rest.clock d.class d.status ∷ [] ≡ run_line s object
       same_line = grind (arith, nat_tests, same_status, dispatch_line s, thing)
 
 module _ (p : Image) (m : Parts) (turned : progress_by m.rest.ended m.stack.tasks ≡ Turned) where
-  abbrev was : Machine
+  abbrev was : MachineModel
   was = record { image = p; parts = m }
 
   -- what is picked, in each state that the machine stands for
-  pub found_in : (a : Active) (id : ℕ) → meanings.Picks m.active a (Some id) → (s : State) (st : StandsFor was s) →
+  pub found_in : (a : Active) (id : ℕ) → meanings.Picks m.active a (Some id) → (s : State) (st : Refines was s) →
       Found p m s st (machine_between was s st turned).idle id
   found_in a id c s st = found_of p m s st (machine_between was s st turned).idle id (c.1 (requested s.cells) (queued p s.cells) st.agrees.requests.stands)
 
   -- an object that is no server
   plain_in : (a : Active) (id : ℕ) (c : meanings.Picks m.active a (Some id)) →
-      is_served (request_at a.table id) ≡ false → (s : State) (st : StandsFor was s) → is_server p (found_in a id c s st).candidate.seat.object.thing ≡ false
+      is_served (request_at a.table id) ≡ false → (s : State) (st : Refines was s) → is_server p (found_in a id c s st).candidate.owned_object.object.thing ≡ false
   plain_in a id c plain s st = sym (serving_after p m s st (machine_between was s st turned).idle id (found_in a id c s st) a c.0) ∙ plain
 
   -- the pick has taken its signal
-  makes_in : (a : Active) (id : ℕ) (c : meanings.Picks m.active a (Some id)) → is_served (request_at a.table id) ≡ false → (s : State) (st : StandsFor was s) →
+  makes_in : (a : Active) (id : ℕ) (c : meanings.Picks m.active a (Some id)) → is_served (request_at a.table id) ≡ false → (s : State) (st : Refines was s) →
       Makes m.active a id taken_up
   makes_in a id c plain s st =
       let idle = (machine_between was s st turned).idle in
-      subst (λ b. meanings.TakesUp b m.active a id) (serving_told p m s st idle id (found_in a id c s st) ∙ plain_in a id c plain s st) c.0
+      subst (λ b. meanings.TakesUp b m.active a id) (serving_reported p m s st idle id (found_in a id c s st) ∙ plain_in a id c plain s st) c.0
 
   -- what the machine needs to know of the object that it picks
   pub picks_can : (a : Active) (id : ℕ) → Stands was → meanings.Picks m.active a (Some id) → is_served (request_at a.table id) ≡ false →
@@ -569,9 +569,9 @@ module _ (p : Image) (m : Parts) (turned : progress_by m.rest.ended m.stack.task
       let idle = (machine_between was s st turned).idle in
       can_dispatch p m s st idle id (pick_of p m s st idle id (found_in a id c s st) (plain_in a id c plain s st)) a (makes_in a id c plain s st)
 
-  pub picks_one : (a : Active) (id : ℕ) (told now : LineBuffer) (new : Parts) → meanings.Picks m.active a (Some id) → is_served
-      (request_at a.table id) ≡ false → Dispatches p id (record m { active = a }) told now new → Picked was true told now (record { image = p; parts = new })
-  picks_one a id told now new c plain d s st =
+  pub picks_one : (a : Active) (id : ℕ) (reported now : LineBuffer) (new : Parts) → meanings.Picks m.active a (Some id) → is_served
+      (request_at a.table id) ≡ false → Dispatches p id (record m { active = a }) reported now new → Picked was true reported now (record { image = p; parts = new })
+  picks_one a id reported now new c plain d s st =
       let idle = (machine_between was s st turned).idle in
       let k = pick_of p m s st idle id (found_in a id c s st) (plain_in a id c plain s st) in
       let makes = makes_in a id c plain s st in (
@@ -580,17 +580,17 @@ module _ (p : Image) (m : Parts) (turned : progress_by m.rest.ended m.stack.task
         ((signals_are_ready p st.typing s st.typed).1 idle).first ∙ ap is_some k.found.first,
         record {
           between = machine_between was s st turned;
-          state = then p m s st idle id k a told now new makes d;
-          goes = goes p m s st idle id k a told now new makes d;
-          lines = grind (arith, nat_tests, same_line p m s st idle id k a told now new makes d);
-          stands = grind (arith, nat_tests, dispatch_stands p m s st idle id k a told now new makes d);
+          state = then p m s st idle id k a reported now new makes d;
+          goes = goes p m s st idle id k a reported now new makes d;
+          lines = grind (arith, nat_tests, same_line p m s st idle id k a reported now new makes d);
+          stands = grind (arith, nat_tests, dispatch_stands p m s st idle id k a reported now new makes d);
         },
       )
 
-  pub picks_none : (a : Active) (told : LineBuffer) (o : Option ℕ) →
-      ((id : ℕ) → o ≡ Some id → ⊥) → meanings.Picks m.active a o → Picked was false told told (record { image = p; parts = record m { active = a } })
-  picks_none a told (Some id) not c = absurd (not id refl)
-  picks_none a told None not c = (
+  pub picks_none : (a : Active) (reported : LineBuffer) (o : Option ℕ) →
+      ((id : ℕ) → o ≡ Some id → ⊥) → meanings.Picks m.active a o → Picked was false reported reported (record { image = p; parts = record m { active = a } })
+  picks_none a reported (Some id) not c = absurd (not id refl)
+  picks_none a reported None not c = (
     ap (λ x. record { image = p; parts = record m { active = x } }) c.0,
     refl,
     λ s st.
@@ -600,6 +600,6 @@ module _ (p : Image) (m : Parts) (turned : progress_by m.rest.ended m.stack.task
   )
 
 -- and the machine stands for a state again
-pub picked_again : (first last : Machine) (b : Bool) (told now : LineBuffer) → Picked first b told now last → Stands first → Stands last
-picked_again first last true told now c st = let t = (c st.0 st.1).3 in (t.state, t.stands)
-picked_again first last false told now c st = subst (λ m. Stands m) (sym c.0) st
+pub picked_again : (first last : MachineModel) (b : Bool) (reported now : LineBuffer) → Picked first b reported now last → Stands first → Stands last
+picked_again first last true reported now c st = let t = (c st.0 st.1).3 in (t.state, t.stands)
+picked_again first last false reported now c st = subst (λ m. Stands m) (sym c.0) st

@@ -15,36 +15,36 @@ use Rattle.aom_image.specs.declared.method.Argument.{Argument}
 use Rattle.aom_image.specs.declared.method.Argument.TheVariants.{Own as Takes_own, Word as Takes_word}
 use Rattle.aom_image.specs.declared.method.Gives.{Gives}
 use Rattle.aom_image.specs.declared.method.Thing.TheVariants.{Message, Object as An_object_of}
-use Rattle.aom_shape.specs.Entries.{without_entry}
-use Rattle.aom_shape.specs.Arguments.{after_of, arguments_moved}
-use Rattle.aom_rules.specs.Calls.{while_called}
-use Rattle.aom_rules.specs.Requests.{resting}
-use Rattle.aom_shape.specs.Kinds.{readied, register, set_register}
-use Rattle.aom_shape.specs.Shape.{Shape}
-use Rattle.aom_roles.specs.Tables.{at, put_at}
-use Rattle.aom_rules.specs.Typing.{Typing, shape_at}
-use Rattle.aom_shape.specs.declared.kind.Kind.{Kind}
-use Rattle.aom_shape.specs.declared.kind.Kind.TheVariants.{Null, Unset}
+use Rattle.aom_abstract_state.specs.Entries.{without_entry}
+use Rattle.aom_abstract_state.specs.Arguments.{after_of, arguments_moved}
+use Rattle.aom_typing_rules.specs.Calls.{while_called}
+use Rattle.aom_typing_rules.specs.Requests.{resting}
+use Rattle.aom_abstract_state.specs.Kinds.{made_ready, register, set_register}
+use Rattle.aom_abstract_state.specs.AbstractState.{AbstractState}
+use Rattle.aom_roles.specs.Tables.{at, set_extending}
+use Rattle.aom_typing_rules.specs.Typing.{Typing, shape_at}
+use Rattle.aom_abstract_state.specs.declared.kind.Kind.{Kind}
+use Rattle.aom_abstract_state.specs.declared.kind.Kind.TheVariants.{Null, Unset}
 use Rattle.aom_machine.proofs.InstructionsLemmas.{call_is, cancel_is, delete_is, trap_is}
-use Rattle.aom_machine.proofs.SafetyLemmas.{all_parts, each_unslotted_alike, ended_alike, guarded_goes, guarded_met, held_dropped, held_elsewhere, held_served}
-use Rattle.aom_machine.proofs.SafetyLemmas.{held_set_word, method_layer, queue_dropped, redeemed_by_alike, register_fits, rerequested_alike, resessioned_alike}
+use Rattle.aom_machine.proofs.SafetyLemmas.{all_parts, each_slot_released_alike, ended_alike, guarded_goes, guarded_met, held_dropped, held_elsewhere, held_served}
+use Rattle.aom_machine.proofs.SafetyLemmas.{held_set_word, method_layer, queue_dropped, redeemed_by_alike, register_fits, request_updated_alike, session_updated_alike}
 use Rattle.aom_machine.proofs.SafetyLemmas.{steps_are_moves}
-use Rattle.aom_machine.proofs.SemanticsLemmas.{at-put_at, held_without}
+use Rattle.aom_machine.proofs.SemanticsLemmas.{at-set_extending, held_without}
 use Rattle.aom_semantics.specs.Calls.{accepted_cells, needs_each, needs_entering, needs_target, passed_cells, result_cells, returned}
 use Rattle.aom_semantics.specs.Cleanup.{to_trap, top_place}
 use Rattle.aom_semantics.specs.Destruction.{begun, destructed, line_on, first_session, parting}
-use Rattle.aom_semantics.specs.Clients.{each_unslotted}
+use Rattle.aom_semantics.specs.Clients.{each_slot_released}
 use Rattle.aom_semantics.specs.Servers.{without_queue}
 use Rattle.aom_semantics.specs.Effects.{Calls, Cancels, Carried, Counts, Destroys, Destroys_last, Effect, Goes_on, Handed, Jumps}
 use Rattle.aom_semantics.specs.Effects.{Replied, Leaves, Made, Operates, Popped, Pushed, Repeats, Requested, Returns, Sets_trap, Spot}
 use Rattle.aom_semantics.specs.Effects.{Update, Written, applied, cells_after, deletes, spot_place, with_words, Sessioned}
 use Rattle.aom_semantics.specs.Moves.{answered, asking, counted, dispatch_ends, does, failed, handled, main_ends, needs, object_ends, stage_ends, step}
 use Rattle.aom_semantics.specs.Places.{Cell, Elsewhere, Entry, Going, Object, Place, Register, Root}
-use Rattle.aom_semantics.specs.Places.{Session, Sight, held, moved, same_place, service_of, without}
+use Rattle.aom_semantics.specs.Places.{Session, CellView, held, moved, same_place, service_of, without}
 use Rattle.aom_semantics.specs.State.{Accept_left, Accepted, Accepts, Answered, Asks, Choice, Closing, Destroy, Dispatch, Dispatched, Frame}
-use Rattle.aom_semantics.specs.State.{Goes, Home, Need, Object_left, Of_main, Of_object, Of_root, Of_server, Parts, Run, Seat}
+use Rattle.aom_semantics.specs.State.{Goes, Receiver, Need, Object_left, Of_main, Of_object, Of_root, Of_server, Disconnects, Run, OwnedObject}
 use Rattle.aom_semantics.specs.State.{Serves, Service_left, Stage, State, Task, Trapped, Unwind, field_place, guarded, resumed, word}
-use Rattle.aom_safety.specs.Steps.{Acts, Arrives, Clears, Comes_out, Empties, Ends, Fits as May, Move, Rests, Undoes, Vanishes}
+use Rattle.aom_safety.specs.Steps.{Acts, Arrives, Clears, Comes_out, Empties, Ends, Fits as May, Move, Rests, Undoes, Reclaims}
 use Rattle.aom_safety.specs.WellTyped.{Fits, Good, WellTyped, WordFits}
 use Rattle.aom_semantics.specs.Words.{here, stored}
 use Rattle.aom_semantics.specs.World.{boot_state}
@@ -55,17 +55,17 @@ use Rattle.aom_machine.proofs.MachineInstructionsLemmas.{at_step, no_word, step_
 use Rattle.std.specs.Ordering.{int_eq}
 use Rattle.aom_image.specs.declared.method.Role.TheVariants.{Error as Answers}
 use Rattle.aom_roles.specs.Tests.{AllTrue}
-use Rattle.aom_semantics.specs.Requests.{begun_cells, ended_cells, on_request, own_request, part_of, rerequested}
+use Rattle.aom_semantics.specs.Requests.{begun_cells, ended_cells, on_request, own_request, part_of, request_updated}
 use Rattle.aom_semantics.specs.Tokens.{next_token, promised, redeemed_by, token_of}
 
 -- ---- kinds
 
-pub kind_says : (p : Image) (h : Sight) (k : Kind) (w : Option ℤ) (o : Option Object) → WordFits w k → Fits p h o k → KindSays p k w o
+pub kind_says : (p : Image) (h : CellView) (k : Kind) (w : Option ℤ) (o : Option Object) → WordFits w k → Fits p h o k → KindSays p k w o
 kind_says p h x w y words fits = grind arith
 
 -- ages are no part of it
-readied_says : (p : Image) (k : Kind) (w : Option ℤ) (o : Option Object) → KindSays p k w o → KindSays p (readied k) w o
-readied_says p x w o says = grind arith
+made_ready_says : (p : Image) (k : Kind) (w : Option ℤ) (o : Option Object) → KindSays p k w o → KindSays p (made_ready k) w o
+made_ready_says p x w o says = grind arith
 
 -- ---- registers below a depth
 
@@ -91,10 +91,10 @@ still_wait p t cs cs' (Dispatched e ∷ ts) same w = still_wait p t cs cs' ts (�
 higher_apart : (d a e i : ℕ) → e < d → same_place (Register d a) (Register e i) ≡ false
 higher_apart d a e i lt = ap (λ b. b && (a == i)) (ne_eqb d e (λ x. absurd (omega (arith, lt, x))))
 
-field_apart : (home : Home) (f e i : ℕ) → same_place (field_place home f) (Register e i) ≡ false
+field_apart : (receiver : Receiver) (f e i : ℕ) → same_place (field_place receiver f) (Register e i) ≡ false
 field_apart x f e i = grind arith
 
-stored_same : (cs : List Cell) (home : Home) (w : ℕ) (v : ℤ) (n : ℕ) → SameBelow cs (stored cs home w v) n
+stored_same : (cs : List Cell) (receiver : Receiver) (w : ℕ) (v : ℤ) (n : ℕ) → SameBelow cs (stored cs receiver w v) n
 stored_same cs x w v n d i lt = grind (arith, nat_tests, held_set_word cs)
 
 -- where a session is accepted from a register of a method over these
@@ -102,29 +102,29 @@ accepted_same : (d : Dispatch) (a depth : ℕ) (cs : List Cell) (n : ℕ) → n 
 accepted_same x a depth cs n deep e i lt = grind (arith, nat_tests, held_served, held_apart cs (Register depth a), higher_apart depth a e i)
 
 -- where a cell goes, with what waits in its queue
-gone_same : (clients : List ℕ) (k m n : ℕ) (cs : List Cell) → SameBelow cs (each_unslotted clients (without (Going k) (without_queue m cs))) n
-gone_same clients k m n cs d i lt = grind (arith, nat_tests, each_unslotted_alike clients, held_without, queue_dropped m cs, held_dropped)
+gone_same : (clients : List ℕ) (k m n : ℕ) (cs : List Cell) → SameBelow cs (each_slot_released clients (without (Going k) (without_queue m cs))) n
+gone_same clients k m n cs d i lt = grind (arith, nat_tests, each_slot_released_alike clients, held_without, queue_dropped m cs, held_dropped)
 
 module _ (p : Image) (fr : Frame) (ts : List Task) (s : State) where
   spot_apart : (spot : Spot) (e i : ℕ) → e < length ts → same_place (spot_place p fr ts s spot) (Register e i) ≡ false
-  spot_apart x e i lt = grind (arith, nat_tests, higher_apart, field_apart fr.home)
+  spot_apart x e i lt = grind (arith, nat_tests, higher_apart, field_apart fr.receiver)
 
   updated_same : (u : Update) → SameBelow s.cells (cells_after p fr ts s u) (length ts)
   updated_same (Carried from to) d i lt =
       held_apart s.cells (spot_place p fr ts s from) (spot_place p fr ts s to) (Register d i) (spot_apart from d i lt) (spot_apart to d i lt)
   updated_same (Made name class a) d i lt =
       ap (λ b. cond b (Some (record { name = name; thing = An_object_of class })) (held s.cells (Register d i))) (higher_apart (length ts) a d i lt)
-  updated_same (Written w v) d i lt = stored_same s.cells fr.home w v (length ts) d i lt
-  updated_same (Requested r) d i lt = (rerequested_alike s.cells fr.home r).held_so (Register d i)
-  updated_same (Sessioned b) d i lt = (resessioned_alike s.cells fr.home b).held_so (Register d i)
+  updated_same (Written w v) d i lt = stored_same s.cells fr.receiver w v (length ts) d i lt
+  updated_same (Requested r) d i lt = (request_updated_alike s.cells fr.receiver r).held_so (Register d i)
+  updated_same (Sessioned b) d i lt = (session_updated_alike s.cells fr.receiver b).held_so (Register d i)
   updated_same (Replied a code) d i lt =
       let order = token_of s.cells (held s.cells (here fr ts s a)) in
       held_without (redeemed_by order code s.cells) (here fr ts s a) (Register d i) ∙ ap (λ b. cond b None (held (redeemed_by order code s.cells)
       (Register d i))) (higher_apart (length ts) a d i lt) ∙ (redeemed_by_alike order code s.cells).held_so (Register d i)
   updated_same (Handed name a) d i lt =
-      let r = on_request (promised (next_token s.cells)) (own_request s.cells fr.home) in
-      ap (λ b. cond b (Some (record { name = name; thing = Message })) (held (rerequested s.cells fr.home r) (Register d i)))
-      (higher_apart (length ts) a d i lt) ∙ (rerequested_alike s.cells fr.home r).held_so (Register d i)
+      let r = on_request (promised (next_token s.cells)) (own_request s.cells fr.receiver) in
+      ap (λ b. cond b (Some (record { name = name; thing = Message })) (held (request_updated s.cells fr.receiver r) (Register d i)))
+      (higher_apart (length ts) a d i lt) ∙ (request_updated_alike s.cells fr.receiver r).held_so (Register d i)
   updated_same (Pushed a) d i lt = held_apart s.cells (here fr ts s a) (Entry (length s.items)) (Register d i) (higher_apart (length ts) a d i lt) refl
   updated_same (Popped a) d i lt = held_apart s.cells (top_place s.items) (here fr ts s a) (Register d i) refl (higher_apart (length ts) a d i lt)
   updated_same _ d i lt = refl
@@ -142,26 +142,26 @@ module _ (p : Image) (fr : Frame) (ts : List Task) (s : State) where
 
 module _ (p : Image) (fr : Frame) (ts : List Task) (s : State) where
   -- the registers of the method that runs
-  abbrev Says : List Cell → Shape → Type 0
+  abbrev Says : List Cell → AbstractState → Type 0
   Says cs sh = (i : ℕ) → KindSays p (register sh i) (word fr i) (held cs (Register (length ts) i))
 
-  emptied : (cs : List Cell) (sh : Shape) (a : ℕ) (to : Place) → ((i : ℕ) → same_place to (Register (length ts) i) ≡ false) → word fr a ≡ None → Says cs sh
+  emptied : (cs : List Cell) (sh : AbstractState) (a : ℕ) (to : Place) → ((i : ℕ) → same_place to (Register (length ts) i) ≡ false) → word fr a ≡ None → Says cs sh
       → Says (moved (here fr ts s a) to cs) (set_register sh a Null)
-  emptied cs sh a to apart wordless says i = grind (arith, nat_tests, at-put_at Unset sh.registers a i Null, held_elsewhere cs, eq-eqb, eqb-true a i)
+  emptied cs sh a to apart wordless says i = grind (arith, nat_tests, at-set_extending Unset sh.registers a i Null, held_elsewhere cs, eq-eqb, eqb-true a i)
 
-  arguments_says : (depth : ℕ) (xs : List Argument) (first to : ℕ) (cs : List Cell) (sh : Shape) → length ts < depth → AllTrue (needs_each p fr ts s xs first) →
+  arguments_says : (depth : ℕ) (xs : List Argument) (first to : ℕ) (cs : List Cell) (sh : AbstractState) → length ts < depth → AllTrue (needs_each p fr ts s xs first) →
       Says cs sh → Says (passed_cells p fr ts s depth xs first to cs) (arguments_moved xs first sh)
   arguments_says depth [] first to cs sh deep met says = says
   arguments_says depth (Takes_word ∷ xs) first to cs sh deep met says = arguments_says depth xs (suc first) (suc to) cs sh deep met.1 says
   arguments_says depth (Takes_own t ∷ xs) first to cs sh deep met says =
       grind (arith, nat_tests, arguments_says depth xs, emptied cs sh first (Register depth to), higher_apart depth to, no_word)
 
-  called_says : (target : Target) (class : Option ℕ) (ended : ℕ) (cs : List Cell) (sh : Shape) → Says cs sh → Says cs (while_called target class ended sh)
-  called_says x class ended cs sh says i = grind (arith, nat_tests, at-put_at Unset sh.registers, eqb-true, readied_says p)
+  called_says : (target : Target) (class : Option ℕ) (ended : ℕ) (cs : List Cell) (sh : AbstractState) → Says cs sh → Says cs (while_called target class ended sh)
+  called_says x class ended cs sh says i = grind (arith, nat_tests, at-set_extending Unset sh.registers, eqb-true, made_ready_says p)
 
 -- what the typing says of the method that runs
 pub record RunsTyped (p : Image) (t : Typing) (cs : List Cell) (fr : Frame) (ts : List Task) : Type 0 where
-  pub shape : Shape
+  pub shape : AbstractState
   pub typed : shape_at t fr.method fr.place ≡ Some shape
   pub says : (i : ℕ) → KindSays p (register shape i) (word fr i) (held cs (Register (length ts) i))
 
@@ -174,8 +174,8 @@ runs_typed p t s fr ts w top = method_layer (λ ls. Good p t s.cells ls) fr ts w
 
 -- ---- moves
 
-line_wait : (p : Image) (t : Typing) (cs : List Cell) (m : ℕ) (home : Home) (height : ℕ) (ts : List Task) → AllWait p t cs ts →
-    OthersWait p t cs (line_on p m home height ts)
+line_wait : (p : Image) (t : Typing) (cs : List Cell) (m : ℕ) (receiver : Receiver) (height : ℕ) (ts : List Task) → AllWait p t cs ts →
+    OthersWait p t cs (line_on p m receiver height ts)
 line_wait p t cs m x height ts w = grind arith
 
 destructed_wait : (p : Image) (t : Typing) (cs : List Cell) (o : Object) (height : ℕ) (ts : List Task) → AllWait p t cs ts →
@@ -196,13 +196,13 @@ trapped_wait p t cs (Run fr ∷ ts) w = trapped_wait p t cs ts w.1
 trapped_wait p t cs (_ ∷ ts) w = w
 
 -- a session is in no such place
-session_apart : (cs : List Cell) (n : ℕ) (clients : List ℕ) (x : Seat) (q : Place) →
+session_apart : (cs : List Cell) (n : ℕ) (clients : List ℕ) (x : OwnedObject) (q : Place) →
     ((n c : ℕ) → same_place (Elsewhere (Session n c)) q ≡ false) → first_session cs n clients ≡ Some x → same_place x.place q ≡ false
 session_apart cs n [] x q apart e = cc
 session_apart cs n (c ∷ clients) x q apart e = grind (arith, nat_tests, session_apart cs n clients x q apart, same_Some)
 
 -- a method's move
-module _ (p : Image) (t : Typing) (c : Choice) (s : State) (fr : Frame) (ts : List Task) (at_hand : s.tasks ≡ Run fr ∷ ts) (i : Instr)
+module _ (p : Image) (t : Typing) (c : Choice) (s : State) (fr : Frame) (ts : List Task) (has_task : s.tasks ≡ Run fr ∷ ts) (i : Instr)
     (there : instr_at p fr.method fr.place ≡ Some i) (met : AllTrue (needs p c fr ts s i)) (h : RunsTyped p t s.cells fr ts) (w : AllWait p t s.cells ts) where
   abbrev W : State → Type 0
   W u = OthersWait p t u.cells u.tasks
@@ -218,7 +218,7 @@ module _ (p : Image) (t : Typing) (c : Choice) (s : State) (fr : Frame) (ts : Li
 
   -- for a method that it has called, at that depth
   calls : (depth m first ended : ℕ) (target : Target) (more : List Need) → length ts < depth → AllTrue (needs_entering p fr ts s target m first more) →
-      ((sh : Shape) → while_waiting p (Some i) sh ≡ while_called target (method_class p m) ended (arguments_moved (arguments_of p m) first sh)) →
+      ((sh : AbstractState) → while_waiting p (Some i) sh ≡ while_called target (method_class p m) ended (arguments_moved (arguments_of p m) first sh)) →
       AllWait p t (passed_cells p fr ts s depth (arguments_of p m) first 0 s.cells) (Run fr ∷ ts)
   calls depth m first ended target more deep needed is =
       let xs = arguments_of p m in
@@ -245,48 +245,48 @@ module _ (p : Image) (t : Typing) (c : Choice) (s : State) (fr : Frame) (ts : Li
       (result_same p fr ts over g a _ below (let n = ap length e in omega (arith, n))) (subst (AllWait p t over.cells) (sym e) ended_w).1
   returns g a (Trapped ∷ Dispatched d ∷ below) e = still_wait p t over.cells _ below
       (accepted_same d a (length ts) over.cells (length below) (let n = ap length e in omega (arith, n))) (subst (AllWait p t over.cells) (sym e) ended_w)
-  returns g a (Destroy ∷ below) e = line_wait p t over.cells fr.method fr.home fr.height below (subst (AllWait p t over.cells) (sym e) ended_w)
+  returns g a (Destroy ∷ below) e = line_wait p t over.cells fr.method fr.receiver fr.height below (subst (AllWait p t over.cells) (sym e) ended_w)
   returns g a (Unwind code ∷ below) e = subst (AllWait p t over.cells) (sym e) ended_w
-  returns g a (Closing ∷ below) e = subst (OthersWait p t over.cells) (sym at_hand) ended_w
+  returns g a (Closing ∷ below) e = subst (OthersWait p t over.cells) (sym has_task) ended_w
   returns g a [] e = stays
     where
       stays : W over
-      stays = subst (OthersWait p t over.cells) (sym at_hand) ended_w
+      stays = subst (OthersWait p t over.cells) (sym has_task) ended_w
   returns g a (Dispatched d ∷ below) e = subst (AllWait p t over.cells) (sym e) ended_w
-  returns g a (Trapped ∷ []) e = subst (OthersWait p t over.cells) (sym at_hand) ended_w
-  returns g a (_ ∷ below) e = subst (OthersWait p t over.cells) (sym at_hand) ended_w
+  returns g a (Trapped ∷ []) e = subst (OthersWait p t over.cells) (sym has_task) ended_w
+  returns g a (_ ∷ below) e = subst (OthersWait p t over.cells) (sym has_task) ended_w
 
   -- the object of a register goes
-  destroys_wait : (o : Object) (a : ℕ) → action_of i ≡ action.Destroy a → W (applied p fr ts s (Destroys o a (put_at None fr.words a None)))
+  destroys_wait : (o : Object) (a : ℕ) → action_of i ≡ action.Destroy a → W (applied p fr ts s (Destroys o a (set_extending None fr.words a None)))
   destroys_wait o a acts =
       let is = delete_is i a acts in
       let cs = moved (here fr ts s a) (Going (suc (length ts))) s.cells in
       let wordless = no_word _ (subst (λ j. AllTrue (needs p c fr ts s j)) is met).0 in
       let says = emptied p fr ts s s.cells h.shape a (Going (suc (length ts))) (λ j. refl) wordless h.says in
-      begun_wait p t cs o (length s.items) (Run (with_words fr (put_at None fr.words a None)) ∷ ts) (
+      begun_wait p t cs o (length s.items) (Run (with_words fr (set_extending None fr.words a None)) ∷ ts) (
         record {
           shape = h.shape;
           typed = h.typed;
           says = λ j. subst (λ x. KindSays p (register (while_waiting p x h.shape) j)
-              (at None (put_at None fr.words a None) j) (held cs (Register (length ts) j))) (sym there) (subst (λ x. KindSays p
-              (register (while_waiting p (Some x) h.shape) j) (at None (put_at None fr.words a None) j) (held cs (Register (length ts) j))) (sym is)
+              (at None (set_extending None fr.words a None) j) (held cs (Register (length ts) j))) (sym there) (subst (λ x. KindSays p
+              (register (while_waiting p (Some x) h.shape) j) (at None (set_extending None fr.words a None) j) (held cs (Register (length ts) j))) (sym is)
               (subst (λ x. KindSays p (register (set_register h.shape a Null) j) x (held cs (Register (length ts) j))) (sym (blank wordless j)) (says j)));
         },
         still_wait p t s.cells cs ts
             (λ d j lt. held_apart s.cells (here fr ts s a) (Going (suc (length ts))) (Register d j) (higher_apart (length ts) a d j lt) refl) w,
       )
     where
-      blank : word fr a ≡ None → (j : ℕ) → at None (put_at None fr.words a None) j ≡ word fr j
-      blank wordless j = grind (arith, nat_tests, at-put_at None fr.words a j None, eqb-true a j)
+      blank : word fr a ≡ None → (j : ℕ) → at None (set_extending None fr.words a None) j ≡ word fr j
+      blank wordless j = grind (arith, nat_tests, at-set_extending None fr.words a j None, eqb-true a j)
 
   -- its registers stay as they are
-  pops : (cs : List Cell) → ((x : Shape) → while_waiting p (Some i) x ≡ without_entry x) → ((d j : ℕ) → held cs (Register d j) ≡ held s.cells (Register d j)) →
+  pops : (cs : List Cell) → ((x : AbstractState) → while_waiting p (Some i) x ≡ without_entry x) → ((d j : ℕ) → held cs (Register d j) ≡ held s.cells (Register d j)) →
       AllWait p t cs (Run fr ∷ ts)
   pops cs is same = (grind (arith, nat_tests, begins cs), still_wait p t s.cells cs ts (λ d j lt. same d j) w)
 
   -- and so they do while the method that cancels runs
   cancels : action_of i ≡ action.Cancel → AllWait p t (begun_cells fr s.cells) (Run fr ∷ ts)
-  cancels acts = let is = cancel_is i acts in grind (arith, nat_tests, rerequested_alike s.cells fr.home, begins, still_wait p t s.cells)
+  cancels acts = let is = cancel_is i acts in grind (arith, nat_tests, request_updated_alike s.cells fr.receiver, begins, still_wait p t s.cells)
 
   -- by its effect; with what words a method waits for an object that goes is told by the instruction
   acts_wait : (e : Effect) → ((o : Object) (a : ℕ) (words : List (Option ℤ)) → e ≡ Destroys o a words → W (applied p fr ts s e)) →
@@ -346,20 +346,20 @@ module _ (p : Image) (t : Typing) (c : Choice) (s u : State) (typed : WellTyped 
       go true = object_wait v
       go false = tt
 
-  asking_waits : (m : Option ℕ) (x : Seat) (code : ℤ) (v : State) → V (asking p m x code v)
+  asking_waits : (m : Option ℕ) (x : OwnedObject) (code : ℤ) (v : State) → V (asking p m x code v)
   asking_waits None x code v = answer_waits code v
   asking_waits (Some m) x code v = tt
 
-  stage_waits : (x : Seat) (client : ℕ) (stage : Stage) (v : State) → V (stage_ends x client stage v)
+  stage_waits : (x : OwnedObject) (client : ℕ) (stage : Stage) (v : State) → V (stage_ends x client stage v)
   stage_waits x client Accepts v = tt
   stage_waits x client Accepted v = tt
   stage_waits x client (Accept_left code) v = tt
   stage_waits x client (Serves o) v = tt
   stage_waits x client (Service_left code) v = tt
-  stage_waits x client Parts v = tt
+  stage_waits x client Disconnects v = tt
 
   -- a session goes over a server that goes, or the server's destructor runs
-  parting_waits : (ts : List Task) (o : Object) (y : Option Seat) →
+  parting_waits : (ts : List Task) (o : Object) (y : Option OwnedObject) →
       s.tasks ≡ Closing ∷ Destroy ∷ ts → y ≡ first_session s.cells o.name (service_of s.cells o.name).sessions → V (parting p o y ts (counted p s))
   parting_waits ts o None top is = destructed_wait p t s.cells o _ ts (over_these (Closing ∷ Destroy ∷ ts) top)
   parting_waits ts o (Some x) top is =
@@ -385,7 +385,7 @@ module _ (p : Image) (t : Typing) (c : Choice) (s u : State) (typed : WellTyped 
           (acts_wait p t c (counted p s) fr ts top i there met (runs_typed p t s fr ts typed top) (over_these (Run fr ∷ ts) top) e
           (λ o a words is. let may = subst (May p c fr ts (counted p s) i) is fits in
           subst V same (destroyed fr ts i o a top there may.0 may.1)) fits)
-      go (Vanishes ts o top there owns same) = subst V (sym same) (resumed_wait p t _ ts
+      go (Reclaims ts o top there owns same) = subst V (sym same) (resumed_wait p t _ ts
           (still_wait p t s.cells _ ts (gone_same (service_of s.cells o.name).sessions (length ts) o.name (length ts) s.cells) (over_these (Destroy ∷ ts) top)))
       go (Empties ts o top there same) = subst V (sym same) (parting_waits ts o (first_session s.cells o.name (service_of s.cells o.name).sessions) top refl)
       go (Clears code ts items o top last there same) =

@@ -17,24 +17,24 @@ use Rattle.aom_cells.specs.Sessions.{is_killed, is_open}
 use Rattle.aom_semantics.specs.Requests.{thing_kind}
 use Rattle.aom_semantics.specs.Natives.{is_dead, is_owed, native_of}
 use Rattle.aom_semantics.specs.Places.{Going, Object, held as owned_at, in_session, named, requested}
-use Rattle.aom_semantics.specs.State.{AtRoot, Destroy, Home, Inside, State, Static, Task, word}
+use Rattle.aom_semantics.specs.State.{AtRoot, Destroy, Receiver, Inside, State, Static, Task, word}
 use Rattle.aom_machine.proofs.SafetyLemmas.{HasWords, has_words}
-use Rattle.aom_semantics.specs.Wanted.{Exchange, Nothing, An_open, A_start, An_ask, A_cancel, A_close, exchange, exchange_at, Wanted, Asks, Cancels}
-use Rattle.aom_semantics.specs.Wanted.{Closes, Starts, is_served, wanted, wanted_at, wanted_by, wanted_going, wanted_gone, wanted_here, wanted_task}
-use Rattle.aom_safety.specs.WellTyped.{Keeps}
+use Rattle.aom_semantics.specs.NativeCall.{Exchange, Nothing, An_open, A_start, An_ask, A_cancel, A_close, exchange, exchange_at, NativeCall, Asks, Cancels}
+use Rattle.aom_semantics.specs.NativeCall.{Closes, Starts, is_served, wanted, wanted_at, wanted_by, wanted_going, wanted_gone, wanted_here, wanted_task}
+use Rattle.aom_safety.specs.WellTyped.{PreservesTyping}
 use Rattle.aom_semantics.specs.Words.{read}
-use Rattle.aom_frames.specs.Tasks.{Runs, method_here, place_here}
+use Rattle.aom_frames.specs.Tasks.{TopFrameIs, method_here, place_here}
 use Rattle.aom_machine_state.specs.declared.parts.Parts.{Parts}
-use Rattle.aom_machine.specs.declared.wanted.Wanted.{Wanted as Machine_wanted}
-use Rattle.aom_machine.specs.declared.wanted.Wanted.TheVariants.{Start, Ask as Machine_ask, Cancel, Close as Machine_close}
-use Rattle.aom_machine_instructions.specs.Acts.{At_hand, In_going}
+use Rattle.aom_machine.specs.declared.wanted.NativeCall.{NativeCall as Machine_wanted}
+use Rattle.aom_machine.specs.declared.wanted.NativeCall.TheVariants.{Start, Ask as Machine_ask, Cancel, Close as Machine_close}
+use Rattle.aom_machine_instructions.specs.Acts.{CurrentFrame, In_going}
 use Rattle.aom_machine_instructions.specs.Acts as acts
 use Rattle.aom_machine_state.specs.Places.{IsDestroying, going_here}
-use Rattle.aom_machine_state.specs.Agrees.{home_number, thing_in}
+use Rattle.aom_machine_state.specs.Agrees.{receiver_number, thing_in}
 use Rattle.aom_machine_state.specs.Fields.{this}
-use Rattle.aom_machine_state.specs.Stands.{StandsFor}
-use Rattle.aom_machine.specs.Wanted.{as_wanted, wanted_call, wanted_of, word_here}
-use Rattle.aom_machine.proofs.MachineInstructionsLemmas.{an_open, at_step, by_going, cell_found, frame_of, going_object, going_of, housed, inside_number}
+use Rattle.aom_machine_state.specs.Stands.{Refines}
+use Rattle.aom_machine.specs.NativeCall.{as_wanted, wanted_call, wanted_of, word_here}
+use Rattle.aom_machine.proofs.MachineInstructionsLemmas.{an_open, at_step, by_going, cell_found, frame_of, going_object, going_of, receiver_held, inside_number}
 use Rattle.aom_machine.proofs.MachineInstructionsLemmas.{inside_object, inside_there, kind_same, met, number_of, object_class, object_lives, step_of_instr}
 use Rattle.aom_machine.proofs.MachineInstructionsLemmas.{this_is, word_read}
 use Rattle.aom_machine.proofs.SemanticsLemmas.{held_lives}
@@ -45,8 +45,8 @@ both_not x b = grind arith
 mapped : (b : Bool) (w : Machine_wanted) → cond b (Some (as_wanted w)) None ≡ option_map as_wanted (cond b (Some w) None)
 mapped x w = grind arith
 
-module _ (p : Image) (m : Parts) (s : State) (st : StandsFor (record { image = p; parts = m }) s) (runs : Runs m.stack.tasks) where
-  abbrev h : At_hand p m
+module _ (p : Image) (m : Parts) (s : State) (st : Refines (record { image = p; parts = m }) s) (runs : TopFrameIs m.stack.tasks) where
+  abbrev h : CurrentFrame p m
   h =
       let f = frame_of m.stack.tasks s.tasks runs st.agrees.tasks in
       record {
@@ -67,27 +67,27 @@ module _ (p : Image) (m : Parts) (s : State) (st : StandsFor (record { image = p
   abbrev call : Exchange
   call = exchange_at (instr_at p h.frame.method h.frame.place)
 
-  by_home : wanted p s ≡ wanted_by s p h.frame h.below h.frame.home call
-  by_home = ap (wanted_task s p) h.top
+  by_receiver : wanted p s ≡ wanted_by s p h.frame h.below h.frame.receiver call
+  by_receiver = ap (wanted_task s p) h.top
 
   -- what works on no cell wants nothing
   pub null_wants : this m ≡ null → wanted p s ≡ None
-  null_wants none = by_home ∙ go h.frame.home refl
+  null_wants none = by_receiver ∙ go h.frame.receiver refl
     where
-      go : (home : Home) → h.frame.home ≡ home → wanted_by s p h.frame h.below home call ≡ None
+      go : (receiver : Receiver) → h.frame.receiver ≡ receiver → wanted_by s p h.frame h.below receiver call ≡ None
       go (Inside o from) e = absurd (inside_there p m h o from e none)
       go _ e = refl
 
-  kind_told : (o : Object) → this m ≡ o.name → named s.cells o.name ≡ Some o → is_object o.thing ≡ true →
+  kind_reported : (o : Object) → this m ≡ o.name → named s.cells o.name ≡ Some o → is_object o.thing ≡ true →
       native_of (thing_kind p o.thing) ≡ native_of (kind_of p (class_at m.cells (this m)))
-  kind_told o number lives object = grind (arith, nat_tests, kind_same p, object_class p m s st.agrees o lives object)
+  kind_reported o number lives object = grind (arith, nat_tests, kind_same p, object_class p m s st.agrees o lives object)
 
   pub unserved_wants : native_of (kind_of p (class_at m.cells (this m))) ≡ None → wanted p s ≡ None
-  unserved_wants none = by_home ∙ go h.frame.home refl
+  unserved_wants none = by_receiver ∙ go h.frame.receiver refl
     where
-      go : (home : Home) → h.frame.home ≡ home → wanted_by s p h.frame h.below home call ≡ None
+      go : (receiver : Receiver) → h.frame.receiver ≡ receiver → wanted_by s p h.frame h.below receiver call ≡ None
       go (Inside o from) e = ap (λ n. wanted_at s h.frame h.below o n call)
-          (kind_told o (inside_number p m h o from e) (housed p m h o from e) (inside_object p m h o from e) ∙ none)
+          (kind_reported o (inside_number p m h o from e) (receiver_held p m h o from e) (inside_object p m h o from e) ∙ none)
       go _ e = refl
 
   -- the instruction that is next, and its needs
@@ -99,7 +99,7 @@ module _ (p : Image) (m : Parts) (s : State) (st : StandsFor (record { image = p
     worded : HasWords h.frame (exchange i)
     worded =
         let c = an_open p [] m s st.agrees in
-        let k = met p st.typing _ _ (subst (Keeps p st.typing) (step_of_instr p c.0 s h.frame h.below i h.top found) (st.sound.keeps c.0 s st.typed c.1.name)) in
+        let k = met p st.typing _ _ (subst (PreservesTyping p st.typing) (step_of_instr p c.0 s h.frame h.below i h.top found) (st.sound.keeps c.0 s st.typed c.1.name)) in
         has_words p c.0 h.frame h.below (acts.requested i (at_step s)) i k.0
 
   -- what the native of the cell is asked
@@ -116,17 +116,17 @@ module _ (p : Image) (m : Parts) (s : State) (st : StandsFor (record { image = p
     served : is_served s n id ≡ (not (is_killed m.sessions n) && is_open m.sessions id)
     served = ap (λ d. not d && in_session s.cells id) dead ∙ ap (λ b. not (is_killed m.sessions n) && b) session
 
-    word_told : (b : ℕ) → is_some (word h.frame b) ≡ true → read h.frame h.below s b ≡ word_here m b
-    word_told b some = sym (word_read p m h b some)
+    word_reported : (b : ℕ) → is_some (word h.frame b) ≡ true → read h.frame h.below s b ≡ word_here m b
+    word_reported b some = sym (word_read p m h b some)
 
     abbrev is_there : Bool
     is_there = not (is_killed m.sessions n) && is_open m.sessions id
 
     -- a call with two words, at a session that is open
-    worded_so : (w : (function word : ℤ) → Wanted) (v : (function word : ℤ) → Machine_wanted) → ((f x : ℤ) → as_wanted (v f x) ≡ w f x) → (a b : ℕ) → is_some
+    worded_so : (w : (function word : ℤ) → NativeCall) (v : (function word : ℤ) → Machine_wanted) → ((f x : ℤ) → as_wanted (v f x) ≡ w f x) → (a b : ℕ) → is_some
         (word h.frame a) ≡ true → is_some (word h.frame b) ≡ true → cond (is_served s n id) (Some (w (read h.frame h.below s a) (read h.frame h.below s b)))
         None ≡ option_map as_wanted (cond is_there (Some (v (word_here m a) (word_here m b))) None)
-    worded_so w v same a b some_a some_b = grind (arith, nat_tests, served, word_told a some_a, word_told b some_b, mapped)
+    worded_so w v same a b some_a some_b = grind (arith, nat_tests, served, word_reported a some_a, word_reported b some_b, mapped)
 
     call_so : (x : Exchange) → HasWords h.frame x → wanted_here s h.frame h.below n id x ≡ option_map as_wanted (wanted_call m owed n id x)
     call_so Nothing words = refl
@@ -138,19 +138,19 @@ module _ (p : Image) (m : Parts) (s : State) (st : StandsFor (record { image = p
 
     pub served_wants : (id ≡ null → ⊥) → native_of (kind_of p (class_at m.cells id)) ≡ Some n →
         (i : Instr) → instr_at p (method_here m.stack.tasks) (place_here m.stack.tasks) ≡ Some i → wanted p s ≡ option_map as_wanted (wanted_of m owed n id i)
-    served_wants some serves i here = by_home ∙ ap (λ o. wanted_by s p h.frame h.below h.frame.home (exchange_at o)) (found i here) ∙ go h.frame.home refl
+    served_wants some serves i here = by_receiver ∙ ap (λ o. wanted_by s p h.frame h.below h.frame.receiver (exchange_at o)) (found i here) ∙ go h.frame.receiver refl
       where
-        go : (home : Home) → h.frame.home ≡ home → wanted_by s p h.frame h.below home (exchange i) ≡ option_map as_wanted (wanted_of m owed n id i)
-        go Static e = absurd (some (this_is p m h ∙ ap home_number e))
-        go AtRoot e = absurd (some (this_is p m h ∙ ap home_number e))
+        go : (receiver : Receiver) → h.frame.receiver ≡ receiver → wanted_by s p h.frame h.below receiver (exchange i) ≡ option_map as_wanted (wanted_of m owed n id i)
+        go Static e = absurd (some (this_is p m h ∙ ap receiver_number e))
+        go AtRoot e = absurd (some (this_is p m h ∙ ap receiver_number e))
         go (Inside o from) e =
             let number = inside_number p m h o from e in
-            ap (λ k. wanted_at s h.frame h.below o k (exchange i)) (kind_told o number (housed p m h o from e) (inside_object p m h o from e) ∙ serves)
+            ap (λ k. wanted_at s h.frame h.below o k (exchange i)) (kind_reported o number (receiver_held p m h o from e) (inside_object p m h o from e) ∙ serves)
             ∙ ap (λ name. wanted_here s h.frame h.below n name (exchange i)) (sym number) ∙ call_so (exchange i) (worded i here)
 
 -- ---- the going of a cell
 
-module _ (p : Image) (m : Parts) (s : State) (st : StandsFor (record { image = p; parts = m }) s) (destroying : IsDestroying m.stack.tasks) where
+module _ (p : Image) (m : Parts) (s : State) (st : Refines (record { image = p; parts = m }) s) (destroying : IsDestroying m.stack.tasks) where
   below : List Task
   below = (going_of m.stack.tasks s.tasks destroying st.agrees.tasks).0
 
@@ -175,7 +175,7 @@ module _ (p : Image) (m : Parts) (s : State) (st : StandsFor (record { image = p
   wanted_is : wanted p s ≡ wanted_going s object.0 (native_of (kind_of p (class_at m.cells (going_here m.stack.tasks))))
   wanted_is =
       let o = object.0 in
-      let lives = held_lives s.cells _ o st.typed.good.tidy object.1 in
+      let lives = held_lives s.cells _ o st.typed.good.no_duplicates object.1 in
       let kind = kind_same p _ o.thing (ap (λ n. thing_in (cell_at m.cells n)) number ∙ object_class p m s st.agrees o lives is_one) in
       ap (wanted_task s p) top ∙ ap (wanted_gone s p) object.1 ∙ ap (wanted_going s o) (ap native_of kind)
 
@@ -207,15 +207,15 @@ native_declared d = refl
 
 -- ---- what a native has answered changes no state
 
-pub heard_stands : (p : Image) (m : Parts) (answer : ℤ) (s : State) → StandsFor (record { image = p; parts = m }) s →
-    StandsFor (record { image = p; parts = record m { heard = answer } }) s
-heard_stands p m answer s st =
+pub observed_stands : (p : Image) (m : Parts) (answer : ℤ) (s : State) → Refines (record { image = p; parts = m }) s →
+    Refines (record { image = p; parts = record m { observed = answer } }) s
+observed_stands p m answer s st =
     let a = st.agrees in
     record {
       typing = st.typing;
       sound = st.sound;
       typed = st.typed;
-      calm = st.calm;
+      only_quiet = st.only_quiet;
       traps = st.traps;
       room = st.room;
       waits = st.waits;

@@ -4,7 +4,7 @@ pub mod Agreement
 pub mod Turns
 pub mod WordMoves
 pub mod Ongoing
-pub mod Wanted
+pub mod NativeCall
 pub mod Serving
 pub mod Servers
 pub mod Clients

@@ -8,13 +8,13 @@ use Rattle.aom_frames.specs.declared.task.Task.{Task as Machine_task}
 use Rattle.aom_frames.specs.declared.task.Task.TheVariants.{Run as Runs_frame, Trapped as Is_trap, Destroy as Destroys, Closing as Closes, Unwind as Unwinds, Dispatched as Ends}
 use Rattle.aom_frames.specs.declared.item.Item.{Item as Machine_item}
 use Rattle.aom_frames.specs.declared.item.Item.TheVariants.{Object as Holds_object, Operation as Holds_operation, Mark as Is_mark}
-use Rattle.aom_progress.specs.Ranks.{tasks_rank, destructions, cell_rank}
+use Rattle.aom_termination.specs.Ranks.{tasks_rank, destructions, cell_rank}
 use Rattle.aom_semantics.specs.Places.{Elsewhere, Root}
 use Rattle.aom_machine_state.specs.Agrees.{dispatch_of}
 
 -- a task, by all that its rank hangs on
 abbrev pub ranked : Machine_task → Task
-ranked (Runs_frame f) = Run (record { method = f.method; place = f.place; words = []; counters = f.counters; home = Static; height = 0; view = None })
+ranked (Runs_frame f) = Run (record { method = f.method; place = f.place; words = []; counters = f.counters; receiver = Static; height = 0; view = None })
 ranked Is_trap = Trapped
 ranked (Destroys x) = Destroy
 ranked Closes = Closing

@@ -2,15 +2,15 @@
 use Rattle.std.specs.Prelude.{◌≡◌, ℕ, ℤ, Bool, false, length, Option, Some, None}
 use Rattle.aom_image.specs.Image.{Image}
 use Rattle.aom_image.specs.declared.method.Thing.TheVariants.{Object as An_object_of}
-use Rattle.aom_active.specs.Agrees.{Active, StandsFor as Asks_for, queued}
-use Rattle.aom_active.specs.Meanings.{Makes}
+use Rattle.aom_active_objects.specs.Agrees.{Active, RefinesRequests as Asks_for, queued}
+use Rattle.aom_active_objects.specs.Meanings.{Makes}
 use Rattle.aom_cells.specs.Sessions.{is_open}
 use Rattle.aom_semantics.specs.Requests.{completed_with, recorded}
-use Rattle.aom_semantics.specs.Natives.{all_bereaved, is_served_by}
+use Rattle.aom_semantics.specs.Natives.{all_detached, is_served_by}
 use Rattle.aom_semantics.specs.Places.{in_session, requested}
 use Rattle.aom_semantics.specs.State.{State}
 use Rattle.aom_machine_state.specs.declared.parts.Parts.{Parts}
-use Rattle.aom_machine_state.specs.Stands.{StandsFor}
+use Rattle.aom_machine_state.specs.Stands.{Refines}
 
 -- ---- one is polled
 
@@ -34,7 +34,7 @@ pub record KeepsOthers (old new : Parts) : Type 0 where
   pub rest : new ≡ record old { active = new.active; sessions = new.sessions }
 
 -- the requests and the sessions are those that the cells have once the native is killed
-pub record Bereaves (p : Image) (native : ℕ) (old new : Parts) : Type 0 where
-  pub requests : (s : State) → StandsFor (record { image = p; parts = old }) s → Asks_for new.active (requested (all_bereaved p native s.cells)) (queued p (all_bereaved p native s.cells))
-  pub sessions : (s : State) → StandsFor (record { image = p; parts = old }) s → (n : ℕ) → is_open new.sessions n ≡ in_session (all_bereaved p native s.cells) n
+pub record Detaches (p : Image) (native : ℕ) (old new : Parts) : Type 0 where
+  pub requests : (s : State) → Refines (record { image = p; parts = old }) s → Asks_for new.active (requested (all_detached p native s.cells)) (queued p (all_detached p native s.cells))
+  pub sessions : (s : State) → Refines (record { image = p; parts = old }) s → (n : ℕ) → is_open new.sessions n ≡ in_session (all_detached p native s.cells) n
   pub others : KeepsOthers old new

@@ -2,7 +2,7 @@
 use Rattle.std.specs.Prelude.{◌≡◌, ◌<◌, ◌≤◌, ◌++◌, ℕ, ℤ, Bool, true, false, List, [], ◌∷◌, Option, None, Some, IsSome}
 use Rattle.aom_image.specs.Image.{Image}
 use Rattle.aom_image.specs.declared.method.Role.TheVariants.{Run as Handles}
-use Rattle.aom_classes.specs.Roles.{role_of}
+use Rattle.aom_link_conditions.specs.Roles.{role_of}
 use Rattle.aom_cells.specs.Heap.{class_at}
 use Rattle.aom_scheduler.specs.Requests.{state_at, status_at}
 use Rattle.aom_transcript.specs.declared.line.Line.TheVariants.{Run as Run_line}
@@ -17,33 +17,33 @@ use Rattle.aom_semantics.specs.State.{Goes, State}
 use Rattle.aom_semantics.specs.World.{Candidate, Completes, Completion, IsBetween, Picks, Timed, Turning, cell_at, first_due, first_ready, has_signal, turned, written_by}
 use Rattle.aom_machine_state.specs.LineBuffer.{LineBuffer}
 use Rattle.aom_machine_state.specs.declared.parts.Parts.{Parts}
-use Rattle.aom_machine_state.specs.Stands.{Machine, StandsFor}
+use Rattle.aom_machine_state.specs.Stands.{MachineModel, Refines}
 
 -- a part of a turn, with its lines, to a state that the machine then stands for
-pub record Takes (old : Machine) (s : State) (part : Turning) (told now : LineBuffer) (new : Machine) : Type 0 where
+pub record Takes (old : MachineModel) (s : State) (part : Turning) (reported now : LineBuffer) (new : MachineModel) : Type 0 where
   pub between : IsBetween s
   pub state : State
   pub goes : turned old.image s part ≡ Goes state
-  pub lines : now ≡ record told { lines = told.lines ++ written_by old.image s part }
-  pub stands : StandsFor new state
+  pub lines : now ≡ record reported { lines = reported.lines ++ written_by old.image s part }
+  pub stands : Refines new state
 
 -- so from each state that it stands for
-abbrev pub TakesAll : Machine → Turning → Machine → Type 0
-TakesAll old part new = (told : LineBuffer) (s : State) → StandsFor old s → Takes old s part told told new
+abbrev pub TakesAll : MachineModel → Turning → MachineModel → Type 0
+TakesAll old part new = (reported : LineBuffer) (s : State) → Refines old s → Takes old s part reported reported new
 
 -- no timer is due by the clock
 abbrev pub NoneDue : State → Type 0
 NoneDue s = (x : Timed) → first_due s.cells ≡ Some x → s.rest.clock < x.timer.due
 
 -- the timer that is due first completes the request of its object, if it is due by the clock
-abbrev pub Completed : Machine → Bool → Machine → Type 0
-Completed old true new = (told : LineBuffer) (s : State) → StandsFor old s → (x : Timed) × (first_due s.cells ≡ Some x) × (x.timer.due ≤ s.rest.clock) × Takes old s (Completes x.object) told told new
-Completed old false new = (new ≡ old) × ((s : State) → StandsFor old s → NoneDue s)
+abbrev pub Completed : MachineModel → Bool → MachineModel → Type 0
+Completed old true new = (reported : LineBuffer) (s : State) → Refines old s → (x : Timed) × (first_due s.cells ≡ Some x) × (x.timer.due ≤ s.rest.clock) × Takes old s (Completes x.object) reported reported new
+Completed old false new = (new ≡ old) × ((s : State) → Refines old s → NoneDue s)
 
 -- the ready object or server that goes before all others is dispatched, with its line; there is none where nothing signals
-abbrev pub Picked : Machine → Bool → LineBuffer → LineBuffer → Machine → Type 0
-Picked old true told now new = (s : State) → StandsFor old s → (x : Candidate) × (first_ready s.cells ≡ Some x) × (has_signal s.cells ≡ true) × Takes old s (Picks x.seat) told now new
-Picked old false told now new = (new ≡ old) × (now ≡ told) × ((s : State) → StandsFor old s → has_signal s.cells ≡ false)
+abbrev pub Picked : MachineModel → Bool → LineBuffer → LineBuffer → MachineModel → Type 0
+Picked old true reported now new = (s : State) → Refines old s → (x : Candidate) × (first_ready s.cells ≡ Some x) × (has_signal s.cells ≡ true) × Takes old s (Picks x.owned_object) reported now new
+Picked old false reported now new = (new ≡ old) × (now ≡ reported) × ((s : State) → Refines old s → has_signal s.cells ≡ false)
 
 -- the cell of that number is completed with that code, or nothing is, as a native answers that is polled
 abbrev pub Answers : List Cell → Option (ℕ × ℤ) → Option Completion → Type 0
@@ -80,12 +80,12 @@ abbrev pub running : (method class id : ℕ) → Parts → Parts
 running method class id m = begins_under (Of_one (record { number = id; class = class })) (fresh method id) (record m { rest = record m.rest { steps = 0; polled = 0 } })
 
 -- the cell of that number is dispatched, by its class, with its line
-pub record Dispatches (p : Image) (id : ℕ) (old : Parts) (told now : LineBuffer) (new : Parts) : Type 0 where
+pub record Dispatches (p : Image) (id : ℕ) (old : Parts) (reported now : LineBuffer) (new : Parts) : Type 0 where
   pub class : ℕ
   pub is : class_at old.cells id ≡ Some class
   pub method : ℕ
   pub handles : role_of p class Handles ≡ Some method
   pub status : ℤ
   pub completed : status_at old.active.table id ≡ Some status
-  pub lines : now ≡ record told { lines = told.lines ++ (Run_line old.rest.clock class status ∷ []) }
+  pub lines : now ≡ record reported { lines = reported.lines ++ (Run_line old.rest.clock class status ∷ []) }
   pub runs : new ≡ running method class id old

@@ -2,11 +2,11 @@
 ghost use Rattle.aom_clients.specs.Clients.{client_at, place_at};
 ghost use Rattle.aom_clients.specs.Nodes.{named_by};
 ghost use Rattle.aom_clients.specs.declared.place.MessagePlace.TheVariants.{Free};
-ghost use Rattle.aom_machine.specs.Clients.{AreKept, Acts, CanAct, Forgets, IsInRange, Obeyed, Sends, asked_by, first_server, queue_changed};
+ghost use Rattle.aom_machine.specs.Clients.{AreKept, Acts, CanAct, Forgets, IsInRange, Executed, Sends, asked_by, first_server, queue_changed};
 ghost use Rattle.aom_machine.specs.Servers.{NotesIf};
 ghost use Rattle.aom_cells.specs.Store.{message_at};
 ghost use Rattle.aom_machine_state.specs.Progress.{progress_by};
-ghost use Rattle.aom_machine_state.specs.Stands.{Stands, StandsFor};
+ghost use Rattle.aom_machine_state.specs.Stands.{Stands, Refines};
 ghost use Rattle.aom_machine_state.specs.declared.progress.Progress.TheVariants.{Turned};
 ghost use Rattle.aom_semantics.specs.State.{State as StateRecord};
 ghost use Rattle.std.specs.Prelude.{◌≡◌, ◌<◌, ◌≤◌, ◌+◌, ◌^◌, ℕ, IfSome, None, false, length, suc, true};
@@ -15,7 +15,7 @@ use crate::servers::note_queue;
 use aom_cells::Messages;
 use aom_clients::{Client, Clients, CommandRefusal, Server};
 use aom_image::ClassKind;
-use aom_linked::Linked;
+use aom_linker::Linked;
 use aom_machine_state::{LineBuffer, Parts};
 use aom_transcript::{ClientCommand, Line};
 
@@ -149,7 +149,7 @@ fn note_changed(parts: &mut Parts, queue: Option<u16>)
 }
 
 /// The client of that number does what it is told, with a line where that is refused. Answers whether it was.
-pub fn obey(
+pub fn execute(
     parts: &mut Parts,
     client: u8,
     command: ClientCommand,
@@ -162,7 +162,7 @@ pub fn obey(
     requires client { client < 64 }
     requires ranged { IsInRange command }
     requires room { length lines.old.lines < lines.old.room }
-    ensures obeyed { (s : StateRecord) → StandsFor (record { image = linked.now; parts = parts.old }) s → Obeyed (record { image = linked.now; parts = parts.old }) s client command lines.old lines.new (record { image = linked.now; parts = parts.new }) }
+    ensures executed { (s : StateRecord) → Refines (record { image = linked.now; parts = parts.old }) s → Executed (record { image = linked.now; parts = parts.old }) s client command lines.old lines.new (record { image = linked.now; parts = parts.new }) }
     ensures quiet { result ≡ false → lines.new ≡ lines.old }
     ensures rest { parts.new.rest ≡ record parts.old.rest { delivered = suc parts.old.rest.delivered } }
     ensures natives { parts.new.sessions ≡ parts.old.sessions }

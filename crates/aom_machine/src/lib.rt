@@ -16,4 +16,4 @@ mod wanted;
 
 pub use aom_machine_state::Progress;
 pub use machine::Machine;
-pub use wanted::Wanted;
+pub use wanted::NativeCall;

@@ -3,22 +3,22 @@
 
 ghost use Rattle.std.specs.Prelude.{◌≡◌, ◌<◌, ◌≤◌, ◌+◌, ◌++◌, ◌∷◌, ◌^◌, ◌↔◌, ◌⊎◌, [], IfOk, IfSome, IsTrue, Option, false, length, option_map, suc, true};
 ghost use Rattle.aom_cells.specs.Heap.{count};
-ghost use Rattle.aom_semantics.specs.World.{AnswersWell, Completion, Cuts, Hears, Kills, Passes, Polls, Waits, boot_state, due_of, first_due, ready_count, signal_count};
+ghost use Rattle.aom_semantics.specs.World.{AnswersWell, Completion, Cuts, Observes, Kills, Passes, Polls, Waits, boot_state, due_of, first_due, ready_count, signal_count};
 ghost use Rattle.aom_machine_state.specs.LineBuffer.{LineBuffer as LineBufferRecord, step_lines};
 ghost use Rattle.aom_determinism.specs.Owed.{owes};
 ghost use Rattle.aom_machine.specs.Agreement.{AgreesInAll};
-ghost use Rattle.aom_machine.specs.Clients.{IsInRange, Obeyed};
-ghost use Rattle.aom_machine_state.specs.Stands.{Stands, StandsFor};
+ghost use Rattle.aom_machine.specs.Clients.{IsInRange, Executed};
+ghost use Rattle.aom_machine_state.specs.Stands.{Stands, Refines};
 ghost use Rattle.aom_machine.specs.Steps.{StaysIdle, Stepped, SteppedOn, Wants, progress, rank, timers};
 ghost use Rattle.aom_machine.specs.Turns.{Answers, Completed, NoneDue, Picked, Takes, TakesAll};
 ghost use Rattle.aom_cells.specs.Sessions.{is_killed};
 ghost use Rattle.aom_semantics.specs.State.{Dispatch, Dispatched, State};
-ghost use Rattle.aom_semantics.specs.Wanted.{wanted};
-ghost use Rattle.aom_machine.specs.Wanted.{as_wanted};
-ghost use Rattle.aom_progress.specs.Payers.{declared_of, payer};
+ghost use Rattle.aom_semantics.specs.NativeCall.{wanted};
+ghost use Rattle.aom_machine.specs.NativeCall.{as_wanted};
+ghost use Rattle.aom_termination.specs.BudgetOwners.{declared_of, budget_owner};
 ghost use Rattle.aom_machine_state.specs.declared.progress.Progress.TheVariants.{Running, Turned};
 
-use crate::wanted::{self, Wanted};
+use crate::wanted::{self, NativeCall};
 use crate::{clients, moves, natives, turns};
 use aom_budget::Accepted;
 use aom_machine_state::{Counters, LineBuffer, Parts, Progress};
@@ -34,7 +34,7 @@ pub struct Machine<'a> {
 }
 
 impl<'a> Model for Machine<'a> {
-    ghost use Rattle.aom_machine_state.specs.Stands.{Machine as MachineRecord, Stands};
+    ghost use Rattle.aom_machine_state.specs.Stands.{MachineModel as MachineRecord, Stands};
 
     ghost Value = { MachineRecord };
 
@@ -47,17 +47,17 @@ impl<'a> Machine<'a> {
     /// A machine at time 0, with main at hand. It takes all the memory that the machine will ever have.
     pub fn boot(alloc: Global, accepted: &'a Accepted) -> Result<Machine<'a>, AllocError>
         ensures image { IfOk result (λ m. m.image ≡ accepted.now) }
-        ensures stands { IfOk result (λ m. StandsFor m (boot_state accepted.now)) }
+        ensures stands { IfOk result (λ m. Refines m (boot_state accepted.now)) }
         ensures agrees { IfOk result AgreesInAll }
     {
         let linked = accepted.linked();
         let parts = Parts::boot(alloc, linked)?;
         aom_safety::boot_keeps();
         aom_safety::step_keeps();
-        aom_safety::calm_keeps();
+        aom_safety::quiet_preserved();
         aom_safety::linked_is_wired();
-        aom_progress::boot_within();
-        aom_progress::moves_pay();
+        aom_termination::boot_within();
+        aom_termination::moves_pay();
         accepted.facts();
         Ok(Machine { accepted, parts })
     }
@@ -83,26 +83,26 @@ impl<'a> Machine<'a> {
         ensures steps { SteppedOn self.old result lines.old lines.new self.new }
         ensures idle { StaysIdle self.old lines.old lines.new self.new }
         ensures agrees { AgreesInAll self.new }
-        ensures told { result ≡ Running → (length lines.old.lines < length lines.new.lines) ⊎ Wants self.new }
+        ensures reported { result ≡ Running → (length lines.old.lines < length lines.new.lines) ⊎ Wants self.new }
         ensures falls { result ≡ Running → rank self.new < rank self.old }
     {
         moves::step_on(&mut self.parts, self.accepted.linked(), lines)
     }
 
     /// What the next step asks of a native, if it asks anything. The call is made before the step, which hears its answer.
-    pub fn wanted(&self) -> Option<Wanted>
-        ensures { (s : State) → StandsFor self.now s → wanted self.now.image s ≡ option_map as_wanted result }
+    pub fn wanted(&self) -> Option<NativeCall>
+        ensures { (s : State) → Refines self.now s → wanted self.now.image s ≡ option_map as_wanted result }
     {
         wanted::wanted_next(&self.parts, self.accepted.linked())
     }
 
     /// A native has answered that to what the next step asks.
-    pub fn hear(&mut self, answer: i32)
-        ensures heard { self.new ≡ record self.old { parts = record self.old.parts { heard = answer } } }
-        ensures stands { (s : State) → StandsFor self.old s → StandsFor self.new s }
+    pub fn observe(&mut self, answer: i32)
+        ensures observed { self.new ≡ record self.old { parts = record self.old.parts { observed = answer } } }
+        ensures stands { (s : State) → Refines self.old s → Refines self.new s }
         ensures agrees { AgreesInAll self.new }
     {
-        self.parts.heard = answer;
+        self.parts.observed = answer;
     }
 
     /// Between dispatches: the timer that is due first completes the request of its object, if it is due by now. Answers whether one was.
@@ -130,7 +130,7 @@ impl<'a> Machine<'a> {
 
     /// When the timer that is due first is due.
     pub fn next_due(&self) -> Option<u64>
-        ensures { (s : State) → StandsFor self.now s → result ≡ due_of (first_due s.cells) }
+        ensures { (s : State) → Refines self.now s → result ≡ due_of (first_due s.cells) }
     {
         self.parts.active.next_due()
     }
@@ -138,9 +138,9 @@ impl<'a> Machine<'a> {
     /// How many signals there are: of requests that are completed and not taken, and of servers in whose queues something waits.
     /// Between dispatches, and at the end of each, as many objects and servers are ready.
     pub fn signals(&self) -> usize
-        ensures signals { (s : State) → StandsFor self.now s → result ≡ signal_count s.cells }
-        ensures between { (s : State) → StandsFor self.now s → s.tasks ≡ [] → result ≡ ready_count s.cells }
-        ensures at_end { (s : State) → StandsFor self.now s → (d : Dispatch) → s.tasks ≡ Dispatched d ∷ [] → result ≡ ready_count s.cells }
+        ensures signals { (s : State) → Refines self.now s → result ≡ signal_count s.cells }
+        ensures between { (s : State) → Refines self.now s → s.tasks ≡ [] → result ≡ ready_count s.cells }
+        ensures at_end { (s : State) → Refines self.now s → (d : Dispatch) → s.tasks ≡ Dispatched d ∷ [] → result ≡ ready_count s.cells }
     {
         self.parts.active.signals()
     }
@@ -158,13 +158,13 @@ impl<'a> Machine<'a> {
     }
 
     /// Between dispatches an event comes from outside that changes nothing here.
-    pub fn hear_event(&mut self)
+    pub fn observe_event(&mut self)
         requires between { progress self.old ≡ Turned }
         requires few { self.old.parts.rest.delivered + 1 < 2 ^ 64 }
         ensures image { self.new.image ≡ self.old.image }
-        ensures heard { TakesAll self.old Hears self.new }
+        ensures observed { TakesAll self.old Observes self.new }
         ensures rest { self.new.parts.rest ≡ record self.old.parts.rest { delivered = suc self.old.parts.rest.delivered } }
-        ensures back { (s : State) → StandsFor self.new s → StandsFor self.old (record s { rest = self.old.parts.rest }) }
+        ensures back { (s : State) → Refines self.new s → Refines self.old (record s { rest = self.old.parts.rest }) }
         ensures timers { timers self.new ≡ timers self.old }
         ensures agrees { AgreesInAll self.new }
     {
@@ -179,7 +179,7 @@ impl<'a> Machine<'a> {
         requires lives { is_killed self.old.parts.sessions native ≡ false }
         requires room { length lines.old.lines < lines.old.room }
         ensures image { self.new.image ≡ self.old.image }
-        ensures killed { (s : State) → StandsFor self.old s → Takes self.old s (Kills native) lines.old lines.new self.new }
+        ensures killed { (s : State) → Refines self.old s → Takes self.old s (Kills native) lines.old lines.new self.new }
         ensures rest { self.new.parts.rest ≡ record self.old.parts.rest { delivered = suc self.old.parts.rest.delivered } }
         ensures ended { self.new.parts.sessions.killed ≡ self.old.parts.sessions.killed ++ native ∷ [] }
         ensures timers { timers self.new ≡ timers self.old }
@@ -189,23 +189,23 @@ impl<'a> Machine<'a> {
     }
 
     /// Between dispatches the client of that number does what it is told, with a line where that is refused. Answers whether it was.
-    pub fn obey(&mut self, client: u8, command: ClientCommand, lines: &mut LineBuffer) -> bool
+    pub fn execute(&mut self, client: u8, command: ClientCommand, lines: &mut LineBuffer) -> bool
         requires between { progress self.old ≡ Turned }
         requires few { self.old.parts.rest.delivered + 1 < 2 ^ 64 }
         requires client { client < 64 }
         requires ranged { IsInRange command }
         requires room { length lines.old.lines < lines.old.room }
         ensures image { self.new.image ≡ self.old.image }
-        ensures obeyed { (s : State) → StandsFor self.old s → Obeyed self.old s client command lines.old lines.new self.new }
-        ensures told { length lines.new.lines ≤ length lines.old.lines + 1 }
+        ensures executed { (s : State) → Refines self.old s → Executed self.old s client command lines.old lines.new self.new }
+        ensures reported { length lines.new.lines ≤ length lines.old.lines + 1 }
         ensures quiet { result ≡ false → lines.new ≡ lines.old }
         ensures rest { self.new.parts.rest ≡ record self.old.parts.rest { delivered = suc self.old.parts.rest.delivered } }
         ensures sessions { self.new.parts.sessions ≡ self.old.parts.sessions }
-        ensures none_due { ((s : State) → StandsFor self.old s → NoneDue s) → (s : State) → StandsFor self.new s → NoneDue s }
+        ensures none_due { ((s : State) → Refines self.old s → NoneDue s) → (s : State) → Refines self.new s → NoneDue s }
         ensures timers { timers self.new ≡ timers self.old }
         ensures agrees { AgreesInAll self.new }
     {
-        clients::obey(
+        clients::execute(
             &mut self.parts,
             client,
             command,
@@ -218,12 +218,12 @@ impl<'a> Machine<'a> {
     pub fn polled(&mut self, native: usize, completion: Option<(u32, i32)>)
         requires between { progress self.old ≡ Turned }
         requires few { native + 1 < 2 ^ 64 }
-        requires owed { IfSome completion (λ x. (s : State) × StandsFor self.old s × (owes self.old.image s.cells native x.0 ≡ true)) }
+        requires owed { IfSome completion (λ x. (s : State) × Refines self.old s × (owes self.old.image s.cells native x.0 ≡ true)) }
         ensures image { self.new.image ≡ self.old.image }
-        ensures polled { (s : State) → StandsFor self.old s → (answer : Option Completion) × Answers s.cells completion answer × AnswersWell self.old.image s (Polls native answer) × ((told : LineBufferRecord) → Takes self.old s (Polls native answer) told told self.new) }
+        ensures polled { (s : State) → Refines self.old s → (answer : Option Completion) × Answers s.cells completion answer × AnswersWell self.old.image s (Polls native answer) × ((reported : LineBufferRecord) → Takes self.old s (Polls native answer) reported reported self.new) }
         ensures rest { self.new.parts.rest ≡ record self.old.parts.rest { polled = suc native } }
         ensures sessions { self.new.parts.sessions ≡ self.old.parts.sessions }
-        ensures none_due { ((s : State) → StandsFor self.old s → NoneDue s) → (s : State) → StandsFor self.new s → NoneDue s }
+        ensures none_due { ((s : State) → Refines self.old s → NoneDue s) → (s : State) → Refines self.new s → NoneDue s }
         ensures timers { timers self.new ≡ timers self.old }
         ensures agrees { AgreesInAll self.new }
     {
@@ -258,7 +258,7 @@ impl<'a> Machine<'a> {
     }
 
     /// Whether no dispatch is at hand, and the run is not over.
-    pub fn is_between(&self) -> bool
+    pub fn is_between_dispatches(&self) -> bool
         ensures { IsTrue result ↔ (progress self.now ≡ Turned) }
     {
         matches!(self.parts.progress(), Progress::Turned)
@@ -282,7 +282,7 @@ impl<'a> Machine<'a> {
     /// dispatched, and after an object's there are none.
     pub fn steps(&self) -> u64
         ensures is { result ≡ self.now.parts.rest.steps }
-        ensures within { (s : State) → StandsFor self.now s → result ≤ declared_of self.now.image (payer s.tasks) }
+        ensures within { (s : State) → Refines self.now s → result ≤ declared_of self.now.image (budget_owner s.tasks) }
     {
         self.parts.rest.steps()
     }

@@ -1,10 +1,10 @@
 //! Natives between dispatches: one is killed, or one that is polled completes a request.
-ghost use Rattle.aom_active.specs.Agrees.{StandsFor as Asks_for};
-ghost use Rattle.aom_active.specs.Meanings.{asked_anew};
+ghost use Rattle.aom_active_objects.specs.Agrees.{RefinesRequests as Asks_for};
+ghost use Rattle.aom_active_objects.specs.Meanings.{asked_anew};
 ghost use Rattle.aom_cells.specs.Heap.{Lives, class_at};
 ghost use Rattle.aom_machine_state.specs.Progress.{progress_by};
-ghost use Rattle.aom_machine.specs.Serving.{Bereaves, Finishes, serves_class};
-ghost use Rattle.aom_machine_state.specs.Stands.{Stands, StandsFor};
+ghost use Rattle.aom_machine.specs.Serving.{Detaches, Finishes, serves_class};
+ghost use Rattle.aom_machine_state.specs.Stands.{Stands, Refines};
 ghost use Rattle.aom_machine.specs.Turns.{Takes};
 ghost use Rattle.aom_machine_state.specs.declared.progress.Progress.TheVariants.{Turned};
 ghost use Rattle.aom_scheduler.specs.Requests.{is_pending, request_at};
@@ -18,7 +18,7 @@ ghost use Rattle.std.specs.Prelude.{◌≡◌, ◌<◌, ◌+◌, ◌^◌, ◌&&�
 
 use crate::wanted;
 use aom_cells::CellId;
-use aom_linked::Linked;
+use aom_linker::Linked;
 use aom_machine_instructions::TERMINATED;
 use aom_machine_state::{LineBuffer, Parts};
 use aom_transcript::Line;
@@ -55,7 +55,7 @@ fn fail_requests(parts: &mut Parts, id: CellId)
 /// So is each cell that the native serves.
 fn fail_all_requests(parts: &mut Parts, native: usize, linked: &Linked)
     requires { Stands (record { image = linked.now; parts = parts.old }) }
-    ensures { Bereaves linked.now native parts.old parts.new }
+    ensures { Detaches linked.now native parts.old parts.new }
 {
     for number in 0..parts.cells.limit() {
         let id = CellId::new(number as u32);
@@ -72,7 +72,7 @@ pub fn kill(parts: &mut Parts, native: u8, linked: &Linked, lines: &mut LineBuff
     requires few { parts.old.rest.delivered + 1 < 2 ^ 64 }
     requires lives { is_killed parts.old.sessions native ≡ false }
     requires room { length lines.old.lines < lines.old.room }
-    ensures killed { (s : State) → StandsFor (record { image = linked.now; parts = parts.old }) s → Takes (record { image = linked.now; parts = parts.old }) s (Kills native) lines.old lines.new (record { image = linked.now; parts = parts.new }) }
+    ensures killed { (s : State) → Refines (record { image = linked.now; parts = parts.old }) s → Takes (record { image = linked.now; parts = parts.old }) s (Kills native) lines.old lines.new (record { image = linked.now; parts = parts.new }) }
     ensures rest { parts.new.rest ≡ record parts.old.rest { delivered = suc parts.old.rest.delivered } }
     ensures ended { parts.new.sessions.killed ≡ parts.old.sessions.killed ++ native ∷ [] }
     ensures timers { parts.new.active.pending.timers ≡ parts.old.active.pending.timers }

@@ -1,17 +1,17 @@
 //! The dispatch of a server: the first of its queue is taken, and what serves it begins.
-ghost use Rattle.aom_classes.specs.Roles.{role_of};
-ghost use Rattle.aom_machine.specs.Servers.{AreRead, Begins, HasCaller, CanTake, HasSession, Notes, ServesFirst, serve_asked, told_words};
+ghost use Rattle.aom_link_conditions.specs.Roles.{role_of};
+ghost use Rattle.aom_machine.specs.Servers.{AreRead, Begins, HasCaller, CanTake, HasSession, Notes, ServesFirst, serve_asked, loaded_message_words};
 ghost use Rattle.aom_machine.specs.Turns.{IsIdle};
 ghost use Rattle.aom_image.specs.declared.method.Role.TheVariants.{Accept, Service};
-ghost use Rattle.aom_cells.specs.Store.{IsKept};
+ghost use Rattle.aom_cells.specs.Store.{IsStored};
 ghost use Rattle.std.specs.Prelude.{◌≡◌, ◌<◌, ℕ, IsSome, length};
 
 use crate::turns::run_under;
 use aom_cells::{CellId, MessageId, Messages};
-use aom_clients::{QueueEntry, Taken};
+use aom_clients::{QueueEntry, TakenEntry};
 use aom_frames::{Dispatch, Frame, Stage, Subject, Task};
 use aom_image::Role;
-use aom_linked::Linked;
+use aom_linker::Linked;
 use aom_machine_state::{LineBuffer, Parts};
 use aom_transcript::{Asked, Line};
 
@@ -36,7 +36,7 @@ pub fn note_queue(parts: &mut Parts, server: u16)
     let id = CellId::new(u32::from(server));
     if parts.active.is_server(id) {
         let waits = parts.clients.is_queued(server);
-        parts.active.set_asked(id, waits);
+        parts.active.set_server_ready(id, waits);
     }
 }
 
@@ -52,13 +52,13 @@ pub fn serve(parts: &mut Parts, id: CellId, linked: &Linked, lines: &mut LineBuf
         unreachable!();
     };
     note_queue(parts, server);
-    parts.rest.count_anew();
+    parts.rest.reset_counts();
     lines.push(Line::Serve(parts.rest.clock(), class, asked(taken.entry), taken.client));
     begin(parts, Subject::new(id.number(), class), taken, linked);
 }
 
 /// What serves an entry begins.
-fn begin(parts: &mut Parts, server: Subject, taken: Taken, linked: &Linked)
+fn begin(parts: &mut Parts, server: Subject, taken: TakenEntry, linked: &Linked)
     requires can { CanTake linked.now server.class taken.client taken.entry parts.old }
     requires idle { IsIdle parts.old }
     ensures { Begins linked.now server taken.client taken.entry parts.old parts.new }
@@ -84,9 +84,9 @@ fn accept(parts: &mut Parts, server: Subject, client: u8, linked: &Linked)
 }
 
 /// The words of a message are in the first registers of the method that serves it.
-fn tell_words(frame: &mut Frame, messages: &Messages, message: MessageId)
-    requires { IsKept messages.now message }
-    ensures told { frame.new ≡ told_words messages.now message frame.old }
+fn load_message_words(frame: &mut Frame, messages: &Messages, message: MessageId)
+    requires { IsStored messages.now message }
+    ensures reported { frame.new ≡ loaded_message_words messages.now message frame.old }
     ensures read { AreRead messages.now message 5 }
 {
     for word in 0..5 {
@@ -97,7 +97,7 @@ fn tell_words(frame: &mut Frame, messages: &Messages, message: MessageId)
 /// The `service` of the client's session runs on its message, which is served from then on (CSession2::ServiceL).
 fn attend(parts: &mut Parts, server: Subject, client: u8, place: u16, linked: &Linked)
     requires below { place < 1024 }
-    requires kept { IsKept parts.old.messages place }
+    requires kept { IsStored parts.old.messages place }
     requires session { (session kind : ℕ) × HasSession parts.old client session kind × IsSome (role_of linked.now kind Service) }
     requires idle { IsIdle parts.old }
     ensures { Begins linked.now server client (QueueEntry.Message place) parts.old parts.new }
@@ -112,7 +112,7 @@ fn attend(parts: &mut Parts, server: Subject, client: u8, place: u16, linked: &L
     };
     let message = MessageId::new(place);
     let mut frame = Frame::begin(method, number);
-    tell_words(&mut frame, &parts.messages, message);
+    load_message_words(&mut frame, &parts.messages, message);
     parts.served = message.number();
     let stage = Stage::Serves(Subject::new(number, class));
     run_under(parts, Dispatch::Server(server, client, stage), frame);
@@ -127,6 +127,6 @@ fn part(parts: &mut Parts, server: Subject, client: u8, linked: &Linked)
     let Some(session) = parts.clients.release_session(client) else {
         unreachable!();
     };
-    parts.stack.push(Task::Dispatched(Dispatch::Server(server, client, Stage::Parts)));
+    parts.stack.push(Task::Dispatched(Dispatch::Server(server, client, Stage::Disconnects)));
     aom_machine_instructions::begin(parts, u32::from(session), linked);
 }

@@ -10,7 +10,7 @@ use crate::servers;
 use aom_cells::CellId;
 use aom_frames::{Dispatch, Frame, Subject, Task};
 use aom_image::Role;
-use aom_linked::Linked;
+use aom_linker::Linked;
 use aom_machine_state::{LineBuffer, Parts};
 use aom_transcript::Line;
 
@@ -54,7 +54,7 @@ fn dispatch(parts: &mut Parts, id: CellId, linked: &Linked, lines: &mut LineBuff
         unreachable!();
     };
     lines.push(Line::Run(parts.rest.clock(), class, parts.active.status(id)));
-    parts.rest.count_anew();
+    parts.rest.reset_counts();
     let subject = Subject::new(number, class);
     run_under(
         parts,

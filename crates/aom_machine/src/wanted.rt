@@ -1,25 +1,25 @@
 //! What the next step asks of a native.
 ghost use Rattle.aom_cells.specs.Heap.{Lives, class_at};
 ghost use Rattle.aom_machine_state.specs.Places.{IsDestroying, going_here};
-ghost use Rattle.aom_machine_state.specs.Stands.{Stands, StandsFor};
-ghost use Rattle.aom_machine.specs.Steps.{Wants, WantsNothing};
-ghost use Rattle.aom_machine.specs.Wanted.{as_wanted, closes_open, wanted_of};
-ghost use Rattle.aom_frames.specs.Tasks.{Runs};
+ghost use Rattle.aom_machine_state.specs.Stands.{Stands, Refines};
+ghost use Rattle.aom_machine.specs.Steps.{Wants, NoNativeCall};
+ghost use Rattle.aom_machine.specs.NativeCall.{as_wanted, closes_open, wanted_of};
+ghost use Rattle.aom_frames.specs.Tasks.{TopFrameIs};
 ghost use Rattle.aom_roles.specs.Shapes.{kind_of};
 ghost use Rattle.aom_semantics.specs.Natives.{native_of};
 ghost use Rattle.aom_semantics.specs.State.{State};
-ghost use Rattle.aom_semantics.specs.Wanted.{wanted};
+ghost use Rattle.aom_semantics.specs.NativeCall.{wanted};
 ghost use Rattle.std.specs.Prelude.{◌≡◌, ◌<◌, IfSome, Some, false, option_map, true};
 
 use aom_cells::{CellId, NULL};
 use aom_frames::TaskKind;
 use aom_image::{ClassKind, Instr, Provider};
-use aom_linked::Linked;
+use aom_linker::Linked;
 use aom_machine_state::Parts;
 
 /// A call that is to be made on a native, for the cell of that number, before the step that hears its answer.
 #[derive(Clone, Copy)]
-pub enum Wanted {
+pub enum NativeCall {
     /// A session is to be opened.
     Open {
         native: usize,
@@ -89,38 +89,38 @@ fn wanted_of(
     native: usize,
     cell: CellId,
     is_owed: bool,
-) -> Option<Wanted>
-    requires { Runs parts.now.stack.tasks }
+) -> Option<NativeCall>
+    requires { TopFrameIs parts.now.stack.tasks }
     ensures { result ≡ wanted_of parts.now is_owed native cell instr }
 {
     let id = cell.number();
     let is_dead = parts.sessions.is_dead(native);
     let is_open = parts.sessions.is_open(cell);
     match instr {
-        Instr::Connect(_) if !is_dead && !is_open => Some(Wanted::Open { native, id }),
-        Instr::Issue(function, word) if !is_dead && is_open => Some(Wanted::Start {
+        Instr::Connect(_) if !is_dead && !is_open => Some(NativeCall::Open { native, id }),
+        Instr::Issue(function, word) if !is_dead && is_open => Some(NativeCall::Start {
             native,
             id,
             function: parts.word(function),
             word: parts.word(word),
         }),
-        Instr::Ask(_, function, word) if !is_dead && is_open => Some(Wanted::Ask {
+        Instr::Ask(_, function, word) if !is_dead && is_open => Some(NativeCall::Ask {
             native,
             id,
             function: parts.word(function),
             word: parts.word(word),
         }),
-        Instr::Abort if is_owed => Some(Wanted::Cancel { native, id }),
-        Instr::Close if is_open => Some(Wanted::Close { native, id }),
+        Instr::Abort if is_owed => Some(NativeCall::Cancel { native, id }),
+        Instr::Close if is_open => Some(NativeCall::Close { native, id }),
         _ => None,
     }
 }
 
 /// What the instruction asks that is next.
-fn wanted_here(parts: &Parts, linked: &Linked) -> Option<Wanted>
-    requires runs { Runs parts.now.stack.tasks }
+fn wanted_here(parts: &Parts, linked: &Linked) -> Option<NativeCall>
+    requires runs { TopFrameIs parts.now.stack.tasks }
     requires stands { Stands (record { image = linked.now; parts = parts.now }) }
-    ensures { (s : State) → StandsFor (record { image = linked.now; parts = parts.now }) s → wanted linked.now s ≡ option_map as_wanted result }
+    ensures { (s : State) → Refines (record { image = linked.now; parts = parts.now }) s → wanted linked.now s ≡ option_map as_wanted result }
 {
     let number = parts.stack.this();
     if number == NULL {
@@ -137,11 +137,11 @@ fn wanted_here(parts: &Parts, linked: &Linked) -> Option<Wanted>
 }
 
 /// A session that is open is to be closed.
-fn closing(parts: &Parts, native: usize, cell: CellId) -> Option<Wanted>
+fn closing(parts: &Parts, native: usize, cell: CellId) -> Option<NativeCall>
     ensures { result ≡ closes_open parts.now native cell }
 {
     if parts.sessions.is_open(cell) {
-        Some(Wanted::Close {
+        Some(NativeCall::Close {
             native,
             id: cell.number(),
         })
@@ -151,11 +151,11 @@ fn closing(parts: &Parts, native: usize, cell: CellId) -> Option<Wanted>
 }
 
 /// What the going of the cell of that number asks, which is at hand: a session that is open is closed.
-fn wanted_going(parts: &Parts, number: u32, linked: &Linked) -> Option<Wanted>
+fn wanted_going(parts: &Parts, number: u32, linked: &Linked) -> Option<NativeCall>
     requires destroying { IsDestroying parts.now.stack.tasks }
     requires going { number ≡ going_here parts.now.stack.tasks }
     requires stands { Stands (record { image = linked.now; parts = parts.now }) }
-    ensures { (s : State) → StandsFor (record { image = linked.now; parts = parts.now }) s → wanted linked.now s ≡ option_map as_wanted result }
+    ensures { (s : State) → Refines (record { image = linked.now; parts = parts.now }) s → wanted linked.now s ≡ option_map as_wanted result }
 {
     let id = parts.cells.living(number);
     match serving(parts, number, linked) {
@@ -169,7 +169,7 @@ pub fn asks(parts: &Parts, linked: &Linked, has_natives: bool) -> bool
     requires stands { Stands (record { image = linked.now; parts = parts.now }) }
     requires named { has_natives ≡ false → linked.now.header.natives ≡ 0 }
     ensures wants { result ≡ true → Wants (record { image = linked.now; parts = parts.now }) }
-    ensures quiet { result ≡ false → WantsNothing (record { image = linked.now; parts = parts.now }) }
+    ensures quiet { result ≡ false → NoNativeCall (record { image = linked.now; parts = parts.now }) }
 {
     if !has_natives {
         return false;
@@ -182,9 +182,9 @@ pub fn asks(parts: &Parts, linked: &Linked, has_natives: bool) -> bool
 
 /// What that asks of a native that is at hand.
 #[inline(never)]
-fn wanted_at_hand(parts: &Parts, linked: &Linked) -> Option<Wanted>
+fn current_native_call(parts: &Parts, linked: &Linked) -> Option<NativeCall>
     requires { Stands (record { image = linked.now; parts = parts.now }) }
-    ensures { (s : State) → StandsFor (record { image = linked.now; parts = parts.now }) s → wanted linked.now s ≡ option_map as_wanted result }
+    ensures { (s : State) → Refines (record { image = linked.now; parts = parts.now }) s → wanted linked.now s ≡ option_map as_wanted result }
 {
     match parts.stack.top() {
         Some(TaskKind::Run) => wanted_here(parts, linked),
@@ -195,12 +195,12 @@ fn wanted_at_hand(parts: &Parts, linked: &Linked) -> Option<Wanted>
 
 /// What the next step asks of a native, if it asks anything.
 #[inline(always)]
-pub fn wanted_next(parts: &Parts, linked: &Linked) -> Option<Wanted>
+pub fn wanted_next(parts: &Parts, linked: &Linked) -> Option<NativeCall>
     requires { Stands (record { image = linked.now; parts = parts.now }) }
-    ensures { (s : State) → StandsFor (record { image = linked.now; parts = parts.now }) s → wanted linked.now s ≡ option_map as_wanted result }
+    ensures { (s : State) → Refines (record { image = linked.now; parts = parts.now }) s → wanted linked.now s ≡ option_map as_wanted result }
 {
     if linked.image().header().natives == 0 {
         return None;
     }
-    wanted_at_hand(parts, linked)
+    current_native_call(parts, linked)
 }

@@ -2,10 +2,10 @@
 use Rattle.std.proofs.Common.{◌≡◌, ◌==◌, ℕ, ℤ, true, List, [], ◌∷◌, Option, None, refl, sym, ap, ◌∙◌, subst}
 use Rattle.aom_image.specs.Image.{Image}
 use Rattle.aom_instructions.specs.declared.instr.Instr.TheVariants.{Stop}
-use Rattle.aom_shape.specs.declared.kind.Kind.TheVariants.{Null}
-use Rattle.aom_rules.specs.Typing.{Typing}
+use Rattle.aom_abstract_state.specs.declared.kind.Kind.TheVariants.{Null}
+use Rattle.aom_typing_rules.specs.Typing.{Typing}
 use Rattle.aom_cells.specs.Heap.{null}
-use Rattle.aom_semantics.specs.Places.{Elsewhere, Entry, Field, Going, Object, Place, Register, Sight, held, seen}
+use Rattle.aom_semantics.specs.Places.{Elsewhere, Entry, Field, Going, Object, Place, Register, CellView, held, seen}
 use Rattle.aom_semantics.specs.State.{Dispatch, Dispatched, Counters, State}
 use Rattle.aom_semantics.specs.Calls.{below_top}
 use Rattle.aom_safety.specs.Claims.{Dispatching}
@@ -46,12 +46,12 @@ pub record Closing (s : State) : Type 0 where
   pub entries : (k : ℕ) → held s.cells (Entry k) ≡ None
   pub goings : (k : ℕ) → held s.cells (Going k) ≡ None
 
-pub fits_null : (p : Image) (h : Sight) (o : Option Object) → Fits p h o Null → o ≡ None
+pub fits_null : (p : Image) (h : CellView) (o : Option Object) → Fits p h o Null → o ≡ None
 fits_null p h o e = fits_unowning p h o Null refl e
 
 pub closing : (p : Image) (t : Typing) (s : State) (d : Dispatch) → WellTyped p t s → s.tasks ≡ Dispatched d ∷ [] → Closing s
-closing p t s d typed e = dispatch_layer (Good p t s.cells) d [] typed.layers (sym typed.tasks ∙ e) typed.good (λ seats ls _ good.
-    let alone = subst (λ ls. Good p t s.cells (Dispatching d seats ∷ ls)) good.stack.1 good in
+closing p t s d typed e = dispatch_layer (Good p t s.cells) d [] typed.layers (sym typed.tasks ∙ e) typed.good (λ owned_chain ls _ good.
+    let alone = subst (λ ls. Good p t s.cells (Dispatching d owned_chain ∷ ls)) good.stack.1 good in
     record {
       registers = λ d i. fits_null p (seen s.cells) _ (alone.fits (Register d i));
       entries = λ k. fits_null p (seen s.cells) _ (alone.fits (Entry k));

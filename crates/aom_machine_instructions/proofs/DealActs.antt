@@ -9,8 +9,8 @@ use Rattle.aom_instructions.specs.declared.instr.Instr.TheVariants.{PopDelete}
 use Rattle.aom_cells.specs.Heap.{null}
 use Rattle.aom_frames.specs.declared.item.Item.{Item as Machine_item}
 use Rattle.aom_frames.specs.declared.item.Item.TheVariants.{Object as Holds_object, Operation as Holds_operation}
-use Rattle.aom_rules.specs.Typing.{Typing}
-use Rattle.aom_semantics.specs.Cleanup.{dealt_with as deals_with, destroyed, operation_frame, tops_entry, top_is_whole, top_place}
+use Rattle.aom_typing_rules.specs.Typing.{Typing}
+use Rattle.aom_semantics.specs.Cleanup.{dealt_with as deals_with, destroyed, operation_frame, top_matches_entry, top_is_whole, top_place}
 use Rattle.aom_semantics.specs.Places.{moved, Place, Register, Entry, Going, Object, changed, held}
 use Rattle.aom_machine_instructions.proofs.SafetyLemmas.{dealing as dealing_effect, entry_object}
 use Rattle.aom_semantics.specs.State.{Static, frame_of, Run, Item, An_object, State}
@@ -18,9 +18,9 @@ use Rattle.aom_safety.specs.WellTyped.{WellTyped}
 use Rattle.aom_frames.specs.Tasks.{fresh, with_register}
 use Rattle.aom_frames.specs.declared.task.Task.TheVariants.{Run as Runs_frame}
 use Rattle.aom_frames.specs.Items.{IsAboveMark}
-use Rattle.aom_machine_instructions.proofs.Housing.{at_hand, needs_met}
+use Rattle.aom_machine_instructions.proofs.ReceiverHolding.{has_task, needs_met}
 use Rattle.aom_machine_instructions.specs.Next.{IsNext, counting}
-use Rattle.aom_machine_instructions.proofs.Topping.{entry_tops, top_lives}
+use Rattle.aom_machine_instructions.proofs.Topping.{entry_top_matches, top_lives}
 use Rattle.aom_machine_state.specs.declared.parts.Parts.{Parts}
 use Rattle.aom_machine_instructions.specs.Acts.{DoesIn}
 use Rattle.aom_machine_state.specs.Agrees.{Represents, SameFrame, SameItems, word_at, number, Agrees}
@@ -59,7 +59,7 @@ module _ (p : Image) (formed : WellFormed p) (m : Parts) (t : Typing) (s : State
       let there = top_value us m.cells is (others m) n (length js) even in
       let name : n ≡ o.name = sym there ∙ old from ∙ ap number e in
       let empty : held s.cells (Going (length ts)) ≡ None = grind (arith, nat_tests, nothing_held p m t s typed agrees, going_past us) in
-      let lives = held_lives s.cells from o typed.good.tidy e in
+      let lives = held_lives s.cells from o typed.good.no_duplicates e in
       let cell = entry_object p t s typed o (length js) e in
       let aside = aside_moved p m s from (Going (length ts)) agrees refl refl in
       let v : State = record s { cells = moved from (Going (length ts)) s.cells; items = js } in
@@ -96,8 +96,8 @@ module _ (p : Image) (formed : WellFormed p) (m : Parts) (t : Typing) (s : State
       (value_written f us m.cells is (others m) d 0 n 0 long (let wide = length-replicate 16 null in omega arith)) (word_written fr ts 0 0 (Some w))
       (λ q. kept (held s.cells) q0 q ∙ ap (λ o. changed (held s.cells) q0 o q) (none_above p t s d 0 typed (omega arith))))
 
-  pub deals : tops_entry s.items ≡ true → top_is_whole s.cells s.items ≡ true → Agrees p (dealt_with p m) (deals_with p s.items s.tasks s)
-  deals some whole = go refl (entries_alike m.entries.items s.items agrees.entries (entry_tops m.entries.items s.items agrees.entries some)) whole
+  pub deals : top_matches_entry s.items ≡ true → top_is_whole s.cells s.items ≡ true → Agrees p (dealt_with p m) (deals_with p s.items s.tasks s)
+  deals some whole = go refl (entries_alike m.entries.items s.items agrees.entries (entry_top_matches m.entries.items s.items agrees.entries some)) whole
     where
       go : {is : List Machine_item} {js : List Item} → m.entries.items ≡ is → Entries_alike is js → top_is_whole s.cells js ≡ true →
           Agrees p (dealing p is m) (deals_with p js s.tasks s)
@@ -106,11 +106,11 @@ module _ (p : Image) (formed : WellFormed p) (m : Parts) (t : Typing) (s : State
 
 module _ (p : Image) (m : Parts) where
   pub deletes_entry : IsNext p PopDelete m → IsAboveMark m.entries.items
-  unfolding at_hand
-  deletes_entry next = let n = needs_met p m PopDelete next in entry_tops m.entries.items next.stands.0.items next.stands.1.agrees.entries n.1.0
+  unfolding has_task
+  deletes_entry next = let n = needs_met p m PopDelete next in entry_top_matches m.entries.items next.stands.0.items next.stands.1.agrees.entries n.1.0
 
   pub deletes_whole : IsNext p PopDelete m → TopLives m
-  unfolding at_hand
+  unfolding has_task
   deletes_whole next = let n = needs_met p m PopDelete next in
       top_lives p (counting next.counts m) next.stands.1.typing next.stands.0 next.stands.1.typed next.stands.1.agrees n.1.1.0
 

@@ -11,12 +11,12 @@ use Rattle.std.proofs.lemmas.List.{length-replicate, length-set}
 use Rattle.aom_image.specs.Image.{Image}
 use Rattle.aom_image.specs.declared.method.Role.TheVariants.{Error as Answers}
 use Rattle.aom_cells.specs.Heap.{null}
-use Rattle.aom_classes.specs.Roles.{role_of}
-use Rattle.aom_rules.specs.Typing.{Typing}
+use Rattle.aom_link_conditions.specs.Roles.{role_of}
+use Rattle.aom_typing_rules.specs.Typing.{Typing}
 use Rattle.aom_machine_instructions.proofs.SafetyLemmas.{dispatch_layer, sits_lives, under_dispatch}
 use Rattle.aom_semantics.specs.Places.{Cell, Place, Register, Elsewhere, Root, Object, changed, held}
 use Rattle.aom_transcript.specs.declared.line.Ending.TheVariants.{Stopped, MainLeft as Left_with}
-use Rattle.aom_semantics.specs.State.{Dispatch, guarded, Home, Inside, Frame, frame_of, Seat, Asks, Task, Run, Dispatched, Counters, State, Choice, raised}
+use Rattle.aom_semantics.specs.State.{Dispatch, guarded, Receiver, Inside, Frame, frame_of, OwnedObject, Asks, Task, Run, Dispatched, Counters, State, Choice, raised}
 use Rattle.aom_semantics.specs.Lines.{dispatch_lines}
 use Rattle.aom_semantics.specs.Moves.{needs_end, answered, asked, asking, is_counted, closed, error_frame, failed}
 use Rattle.aom_semantics.specs.Moves.{main_ends, object_ends, dispatch_ends, step, step_task, written_task}
@@ -34,23 +34,23 @@ use Rattle.aom_machine_state.specs.declared.parts.Parts.{Parts}
 use Rattle.aom_machine_instructions.specs.Ends as ends
 use Rattle.aom_machine_instructions.specs.Ends.{CanEnd, closed_counts, ended_answered, ended_dispatch, failed_counts, handled_counts}
 use Rattle.aom_machine_state.specs.Places.{others, value_in, with_tasks, IsEnding}
-use Rattle.aom_machine_instructions.specs.Going.{ending_here, uprooted}
-use Rattle.aom_machine_state.specs.Agrees.{word_at, Represents, dispatch_of, number, seat_of, Agrees}
+use Rattle.aom_machine_instructions.specs.Going.{ending_here, root_removed}
+use Rattle.aom_machine_state.specs.Agrees.{word_at, Represents, dispatch_of, number, owned_object_of, Agrees}
 use Rattle.aom_machine_state.specs.Stands.{Stands}
 use Rattle.aom_machine_instructions.specs.Moves.{Moves}
-use Rattle.aom_machine_instructions.proofs.MachineStateLemmas.{Alike, An_end, Tops, alike, both_end, end_on_top, kept, none_alike, tops, value_written}
+use Rattle.aom_machine_instructions.proofs.MachineStateLemmas.{Alike, An_end, TopMatches, alike, both_end, end_on_top, kept, none_alike, top_matches, value_written}
 use Rattle.aom_machine_instructions.proofs.MachineStateLemmas.{word_written, writes}
 use Rattle.aom_machine_instructions.proofs.Finding.{class_fits, root_lives}
 use Rattle.aom_machine_instructions.proofs.Running.{object_small}
-use Rattle.aom_safety.specs.WellTyped.{Good, SitsFirst}
-use Rattle.aom_safety.specs.WellTyped.{seat_of as checked_seat}
+use Rattle.aom_safety.specs.WellTyped.{Good, OwnedFirst}
+use Rattle.aom_safety.specs.WellTyped.{owned_object_of as checked_owned_object}
 use Rattle.aom_semantics.specs.State.{Object_left}
 use Rattle.aom_machine_state.specs.Agrees.{subject_of}
 use Rattle.aom_semantics.specs.Places.{named}
 use Rattle.aom_machine_instructions.proofs.Running.{agrees_with, an_open, aside_counted, aside_of, begun_frame, not_null, reframed}
 use Rattle.aom_machine_instructions.proofs.CallActs.{Closing, closing, shows_null}
 use Rattle.aom_machine_instructions.proofs.OnTop.{ending_of}
-use Rattle.aom_machine_instructions.proofs.GoingActs.{end_value, end_word, fresh_value, fresh_word, uproots}
+use Rattle.aom_machine_instructions.proofs.GoingActs.{end_value, end_word, fresh_value, fresh_word, removes_root}
 use Rattle.aom_machine_instructions.proofs.Stepping.{counted_by, moved_so}
 use Rattle.aom_image.specs.WellFormed.{WellFormed}
 
@@ -62,9 +62,9 @@ pub record AtEnd (m : Parts) (s : State) : Type 0 where
   pub state : s.tasks ≡ Dispatched (dispatch_of place dispatch) ∷ []
 
 pub at_end : (p : Image) (t : Typing) (m : Parts) (s : State) → WellTyped p t s → Agrees p m s → IsEnding m.stack.tasks → AtEnd m s
-at_end p t m s typed agrees ending = go refl refl (tops An_end m.stack.tasks ending) (alike m.stack.tasks s.tasks agrees.tasks)
+at_end p t m s typed agrees ending = go refl refl (top_matches An_end m.stack.tasks ending) (alike m.stack.tasks s.tasks agrees.tasks)
   where
-    go : {ms : List Machine_task} {us : List Task} → m.stack.tasks ≡ ms → s.tasks ≡ us → Tops An_end ms → Alike ms us → AtEnd m s
+    go : {ms : List Machine_task} {us : List Task} → m.stack.tasks ≡ ms → s.tasks ≡ us → TopMatches An_end ms → Alike ms us → AtEnd m s
     go e f (end_on_top x _) (both_end _ d ms ts same rest _) =
         let below = under_dispatch p t s d ts typed f in
         record {
@@ -75,18 +75,18 @@ at_end p t m s typed agrees ending = go refl refl (tops An_end m.stack.tasks end
         }
 
 -- who is dispatched lives
-pub seat_lives : (p : Image) (t : Typing) (s : State) →
-    WellTyped p t s → (d : Dispatch) (x : Seat) → s.tasks ≡ Dispatched d ∷ [] → checked_seat d ≡ Some x → named s.cells x.object.name ≡ Some x.object
-seat_lives p t s typed d x top is = dispatch_layer (Good p t s.cells) d [] typed.layers
-    (sym typed.tasks ∙ top) typed.good (λ seats ls _ good. sits_lives s.cells seats x good.stack.2 (subst (λ y. SitsFirst s.cells y seats) is good.stack.3))
+pub owned_object_lives : (p : Image) (t : Typing) (s : State) →
+    WellTyped p t s → (d : Dispatch) (x : OwnedObject) → s.tasks ≡ Dispatched d ∷ [] → checked_owned_object d ≡ Some x → named s.cells x.object.name ≡ Some x.object
+owned_object_lives p t s typed d x top is = dispatch_layer (Good p t s.cells) d [] typed.layers
+    (sym typed.tasks ∙ top) typed.good (λ owned_chain ls _ good. sits_lives s.cells owned_chain x good.stack.2 (subst (λ y. OwnedFirst s.cells y owned_chain) is good.stack.3))
 
 -- the root's destruction and its destructor find room there
-pub uproot_room : (p : Image) (m : Parts) → Stands (record { image = p; parts = m }) → IsEnding m.stack.tasks →
+pub remove_root_room : (p : Image) (m : Parts) → Stands (record { image = p; parts = m }) → IsEnding m.stack.tasks →
     length (below_first m.stack.tasks) + 2 < m.stack.depth
-uproot_room p m st ending = grind (arith, nat_tests, at_end p st.1.typing m st.0 st.1.typed st.1.agrees ending)
+remove_root_room p m st ending = grind (arith, nat_tests, at_end p st.1.typing m st.0 st.1.typed st.1.agrees ending)
 
 pub can_end : (p : Image) (m : Parts) → Stands (record { image = p; parts = m }) → IsEnding m.stack.tasks → CanEnd m
-can_end p m st ending = record { lives = root_lives p m st; small = class_fits p m st.0 st.1.agrees m.root; room = uproot_room p m st ending }
+can_end p m st ending = record { lives = root_lives p m st; small = class_fits p m st.0 st.1.agrees m.root; room = remove_root_room p m st ending }
 
 -- which dispatch that is
 pub which : (m : Parts) (s : State) (e : AtEnd m s) (x : Machine_dispatch) → ending_here m.stack.tasks ≡ Some x → e.dispatch ≡ x
@@ -112,8 +112,8 @@ needs_none : (q : Place) (x : Machine_dispatch) (cs : List Cell) → IsPlain x �
 needs_none q x cs plain = grind arith
 
 -- and writes nothing
-tells_none : (q : Place) (x : Machine_dispatch) (cs : List Cell) → IsPlain x → dispatch_lines cs (dispatch_of q x) ≡ []
-tells_none q x cs plain = grind arith
+reports_none : (q : Place) (x : Machine_dispatch) (cs : List Cell) → IsPlain x → dispatch_lines cs (dispatch_of q x) ≡ []
+reports_none q x cs plain = grind arith
 
 pub step_of_end : (p : Image) (c : Choice) (s : State) (d : Dispatch) → s.tasks ≡ Dispatched d ∷ [] →
     step p c s ≡ guarded (needs_end d s.cells) (dispatch_ends p d (at_close s))
@@ -126,8 +126,8 @@ over_counts r = record r { ended = Some Stopped }
 abbrev left_counts : ℤ → Counters → Counters
 left_counts code r = record r { clock = raised r.clock; ended = Some (Left_with code) }
 
-abbrev uprooted_counts : Counters → Counters
-uprooted_counts r = record r { clock = raised r.clock }
+abbrev root_removed_counts : Counters → Counters
+root_removed_counts r = record r { clock = raised r.clock }
 
 -- what is left of a dispatch at its end, on both sides
 module _ (p : Image) (formed : WellFormed p) (m : Parts) (announced : m.rest.announced ≡ true) (t : Typing) (s : State) (typed : WellTyped p t s)
@@ -163,15 +163,15 @@ module _ (p : Image) (formed : WellFormed p) (m : Parts) (announced : m.rest.ann
       alone = left_alone (closed_counts r) (closed_counts r') (ap closed_counts same)
 
       go : (stopped : Bool) (root : Option Object) → held s.cells (Elsewhere Root) ≡ root →
-          Agrees p (cond (stopped && not (m.root == null)) (uprooted p old) (ends.closed old)) (main_ends p stopped root new)
+          Agrees p (cond (stopped && not (m.root == null)) (root_removed p old) (ends.closed old)) (main_ends p stopped root new)
       go false root is = alone
-      go true None is = subst (λ b. Agrees p (cond (not b) (uprooted p old) (ends.closed old)) (closed new))
+      go true None is = subst (λ b. Agrees p (cond (not b) (root_removed p old) (ends.closed old)) (closed new))
           (sym (eq-eqb m.root null (agrees.values (Elsewhere Root) ∙ ap number is))) alone
       go true (Some o) is =
           let name : m.root ≡ o.name = agrees.values (Elsewhere Root) ∙ ap number is in
           let rooted : m.root ≡ null → ⊥ = λ n. not_null p m t s typed agrees (Elsewhere Root) o is (sym name ∙ n) in
-          subst (λ b. Agrees p (cond (not b) (uprooted p old) (ends.closed old)) (main_ends p true (Some o) new)) (sym (ne_eqb m.root null rooted))
-          (uproots p formed m t s e.dispatch (dispatch_of e.place e.dispatch) o r (uprooted_counts r') typed agrees e.held e.state is (ap uprooted_counts same))
+          subst (λ b. Agrees p (cond (not b) (root_removed p old) (ends.closed old)) (main_ends p true (Some o) new)) (sym (ne_eqb m.root null rooted))
+          (removes_root p formed m t s e.dispatch (dispatch_of e.place e.dispatch) o r (root_removed_counts r') typed agrees e.held e.state is (ap root_removed_counts same))
 
   -- the dispatch of an object counts
   object_alike : Agrees p (ended_dispatch p (ends.handled m)) (object_ends p (at_close s))
@@ -187,24 +187,24 @@ module _ (p : Image) (formed : WellFormed p) (m : Parts) (announced : m.rest.ann
       go false = left_alone (failed_counts answer m.rest) (failed_counts answer now) (same_counts (failed_counts answer))
 
   -- its `error` method runs on the code
-  module _ (x : Subject) (sits : named s.cells x.number ≡ Some (subject_of x)) (code : ℤ) (k : ℕ) where
-    abbrev asked_seat : Seat
-    asked_seat = seat_of e.place x
+  module _ (x : Subject) (is_owned_chain : named s.cells x.number ≡ Some (subject_of x)) (code : ℤ) (k : ℕ) where
+    abbrev asked_owned_object : OwnedObject
+    asked_owned_object = owned_object_of e.place x
 
-    abbrev home : Home
-    home = Inside asked_seat.object asked_seat.place
+    abbrev receiver : Receiver
+    receiver = Inside asked_owned_object.object asked_owned_object.place
 
     abbrev f : Machine_frame
     f = fresh k x.number
 
     abbrev fr : Frame
-    fr = frame_of k home (length s.items)
+    fr = frame_of k receiver (length s.items)
 
     abbrev us : List Machine_task
     us = Ends (One_asks x) ∷ []
 
     abbrev ts : List Task
-    ts = Dispatched (Asks asked_seat) ∷ []
+    ts = Dispatched (Asks asked_owned_object) ∷ []
 
     at_rest : (q : Place) → Represents (value_in (Ends e.dispatch ∷ []) m.cells m.entries.items (others m) q)
         (word_at (Dispatched (dispatch_of e.place e.dispatch) ∷ []) q) (held s.cells q)
@@ -223,14 +223,14 @@ module _ (p : Image) (formed : WellFormed p) (m : Parts) (announced : m.rest.ann
     )
 
     error_runs : FitsSigned w32 code → Agrees p (with_tasks (Runs_frame (with_register 0 (cast_unsigned w32 code) f) ∷ us) m)
-        (record (at_close s) { tasks = Run (error_frame k asked_seat code (length s.items)) ∷ ts })
+        (record (at_close s) { tasks = Run (error_frame k asked_owned_object code (length s.items)) ∷ ts })
     error_runs fits =
         let n = cast_unsigned w32 code in
         let here = Register 1 0 in
-        agrees_with p m (at_close s) (Runs_frame (with_register 0 n f) ∷ us) (Run (error_frame k asked_seat code (length s.items)) ∷ ts)
+        agrees_with p m (at_close s) (Runs_frame (with_register 0 n f) ∷ us) (Run (error_frame k asked_owned_object code (length s.items)) ∷ ts)
         (aside_counted p m s m.rest (at_close s).rest (aside_of p m s agrees) (same_counts (λ r. r))) (
-          reframed f fr (slice_set f.registers 0 n) (Some code ∷ []) 0 0 (begun_frame k x.number home (length s.items) refl
-              (λ there. object_small p m s formed agrees (subject_of x) sits refl)) (length-set f.registers 0 n ∙ length-replicate 16 null) refl,
+          reframed f fr (slice_set f.registers 0 n) (Some code ∷ []) 0 0 (begun_frame k x.number receiver (length s.items) refl
+              (λ there. object_small p m s formed agrees (subject_of x) is_owned_chain refl)) (length-set f.registers 0 n ∙ length-replicate 16 null) refl,
           ((e.place, refl), tt),
         )
         (writes _ _ _ _ (held s.cells) _ here n (Some code) None base (to_z-of_z w32 code fits)
@@ -238,52 +238,52 @@ module _ (p : Image) (formed : WellFormed p) (m : Parts) (announced : m.rest.ann
         (word_written fr ts 0 0 (Some code)) (λ q. kept (held s.cells) here q ∙ ap (λ o. changed (held s.cells) here o q) (shut.registers 1 0)))
 
   asking_alike : (method : Option ℕ) (x : Subject) (code : ℤ) → named s.cells x.number ≡ Some (subject_of x) →
-      FitsSigned w32 code → Agrees p (ends.asking p method x code m) (asking p method (seat_of e.place x) code (at_close s))
-  asking_alike None x code sits fits = answered_alike code
-  asking_alike (Some k) x code sits fits = grind (arith, nat_tests, error_runs x sits code k fits)
+      FitsSigned w32 code → Agrees p (ends.asking p method x code m) (asking p method (owned_object_of e.place x) code (at_close s))
+  asking_alike None x code is_owned_chain fits = answered_alike code
+  asking_alike (Some k) x code is_owned_chain fits = grind (arith, nat_tests, error_runs x is_owned_chain code k fits)
 
-module _ (p : Image) (m : Parts) (told : LineBuffer) (announced : m.rest.announced ≡ true) where
+module _ (p : Image) (m : Parts) (reported : LineBuffer) (announced : m.rest.announced ≡ true) where
   -- the end of a dispatch writes nothing
   by_end : (new : Parts) (x : Machine_dispatch) → IsPlain x → ending_here m.stack.tasks ≡ Some x → ((t : Typing) (s : State) → WellFormed p →
-      WellTyped p t s → Agrees p m s → (e : AtEnd m s) → Agrees p new (dispatch_ends p (dispatch_of e.place x) (at_close s))) → Moves p m told told new
+      WellTyped p t s → Agrees p m s → (e : AtEnd m s) → Agrees p new (dispatch_ends p (dispatch_of e.place x) (at_close s))) → Moves p m reported reported new
   by_end new x plain ending ends t s sound typed kept agrees =
       let e = at_end p t m s typed agrees (ending_of m.stack.tasks ending) in
-      let c = an_open p told.refused m s agrees in
+      let c = an_open p reported.refused m s agrees in
       let after = dispatch_ends p (dispatch_of e.place e.dispatch) (at_close s) in
       let is = step_of_end p c.0 s (dispatch_of e.place e.dispatch) e.state
       ∙ ap (λ ns. guarded ns after) (needs_none e.place e.dispatch s.cells (subst IsPlain (sym (which m s e x ending)) plain)) in (
-        grind (arith, nat_tests, moved_so p m new told.refused t s after sound typed c is, which m s e x ending),
-        ap (λ ls. record told { lines = ls }) (sym (ap (λ us. told.lines ++ written_task p s us) e.state
-            ∙ ap (λ ls. told.lines ++ ls) (tells_none e.place e.dispatch s.cells (subst IsPlain (sym (which m s e x ending)) plain)) ∙ append-nil told.lines)),
+        grind (arith, nat_tests, moved_so p m new reported.refused t s after sound typed c is, which m s e x ending),
+        ap (λ ls. record reported { lines = ls }) (sym (ap (λ us. reported.lines ++ written_task p s us) e.state
+            ∙ ap (λ ls. reported.lines ++ ls) (reports_none e.place e.dispatch s.cells (subst IsPlain (sym (which m s e x ending)) plain)) ∙ append-nil reported.lines)),
       )
 
-  pub main_moves : ending_here m.stack.tasks ≡ Some Main → Moves p m told told (ended_dispatch p m)
+  pub main_moves : ending_here m.stack.tasks ≡ Some Main → Moves p m reported reported (ended_dispatch p m)
   main_moves is = by_end _ Main tt is (λ t s formed typed agrees e. ends_alike p formed m announced t s typed agrees e m.rest
       (now p formed m announced t s typed agrees e) (same_counts p formed m announced t s typed agrees e (λ r. r)))
 
   pub over_moves : ending_here m.stack.tasks ≡ Some End_of_run →
-      Moves p m told told (record m { stack = record m.stack { tasks = below_first m.stack.tasks }; rest = over_counts m.rest })
+      Moves p m reported reported (record m { stack = record m.stack { tasks = below_first m.stack.tasks }; rest = over_counts m.rest })
   over_moves is = by_end _ End_of_run tt is (λ t s formed typed agrees e. left_alone p formed m announced t s typed agrees e
       (over_counts m.rest) _ (same_counts p formed m announced t s typed agrees e over_counts))
 
   pub left_moves : (code : ℤ) → ending_here m.stack.tasks ≡ Some (MainLeft code) →
-      Moves p m told told (record m { stack = record m.stack { tasks = below_first m.stack.tasks }; rest = left_counts code m.rest })
+      Moves p m reported reported (record m { stack = record m.stack { tasks = below_first m.stack.tasks }; rest = left_counts code m.rest })
   left_moves code is = by_end _ (MainLeft code) tt is (λ t s formed typed agrees e. left_alone p formed m announced t s typed agrees e
       (left_counts code m.rest) _ (same_counts p formed m announced t s typed agrees e (left_counts code)))
 
-  pub object_moves : (x : Subject) → ending_here m.stack.tasks ≡ Some (Of_one x) → Moves p m told told (ended_dispatch p (ends.handled m))
+  pub object_moves : (x : Subject) → ending_here m.stack.tasks ≡ Some (Of_one x) → Moves p m reported reported (ended_dispatch p (ends.handled m))
   object_moves x is = by_end _ (Of_one x) tt is (λ t s formed. object_alike p formed m announced t s)
 
-  pub asks_moves : (x : Subject) → ending_here m.stack.tasks ≡ Some (One_asks x) → Moves p m told told (ended_dispatch p (ends.handled m))
+  pub asks_moves : (x : Subject) → ending_here m.stack.tasks ≡ Some (One_asks x) → Moves p m reported reported (ended_dispatch p (ends.handled m))
   asks_moves x is = by_end _ (One_asks x) tt is (λ t s formed. object_alike p formed m announced t s)
 
   pub object_left_moves : (x : Subject) (code : ℤ) → FitsSigned w32 code → ending_here m.stack.tasks ≡ Some (One_left x code) →
-      Moves p m told told (ends.asking p (role_of p x.class Answers) x code m)
+      Moves p m reported reported (ends.asking p (role_of p x.class Answers) x code m)
   object_left_moves x code fits is = by_end _ (One_left x code) tt is (λ t s formed typed agrees e.
-      let at : s.tasks ≡ Dispatched (Object_left (seat_of e.place x) code) ∷ [] =
+      let at : s.tasks ≡ Dispatched (Object_left (owned_object_of e.place x) code) ∷ [] =
       e.state ∙ ap (λ y. Dispatched (dispatch_of e.place y) ∷ []) (which m s e (One_left x code) is) in
       asking_alike p formed m announced t s typed agrees e (role_of p x.class Answers) x code
-      (seat_lives p t s typed (Object_left (seat_of e.place x) code) (seat_of e.place x) at refl) fits)
+      (owned_object_lives p t s typed (Object_left (owned_object_of e.place x) code) (owned_object_of e.place x) at refl) fits)
 
-  pub answered_moves : (x : Subject) (answer : ℤ) → ending_here m.stack.tasks ≡ Some (One_answered x answer) → Moves p m told told (ended_answered p answer m)
+  pub answered_moves : (x : Subject) (answer : ℤ) → ending_here m.stack.tasks ≡ Some (One_answered x answer) → Moves p m reported reported (ended_answered p answer m)
   answered_moves x answer is = by_end _ (One_answered x answer) tt is (λ t s formed typed agrees e. answered_alike p formed m announced t s typed agrees e answer)

@@ -11,9 +11,9 @@ use Rattle.aom_cells.specs.Heap.{Heap, null}
 use Rattle.aom_frames.specs.Items.{Stack as Machine_items, owned_by}
 use Rattle.aom_frames.specs.declared.item.Item.{Item as Machine_item}
 use Rattle.aom_frames.specs.declared.item.Item.TheVariants.{Object as Holds_object, Operation as Holds_operation}
-use Rattle.aom_roles.specs.Tables.{put_at}
+use Rattle.aom_roles.specs.Tables.{set_extending}
 use Rattle.aom_semantics.specs.Calls.{below_top}
-use Rattle.aom_semantics.specs.Cleanup.{leave_needs, no_memory, tops_operation, to_trap}
+use Rattle.aom_semantics.specs.Cleanup.{leave_needs, no_memory, top_matches_operation, to_trap}
 use Rattle.aom_semantics.specs.Places.{Place, Register, Entry, changed, held, moved}
 use Rattle.aom_semantics.specs.Effects.{Effect, Leaves, Pushed, Pushed_operation, Update, applied, sets, unless_refused, updates}
 use Rattle.aom_semantics.specs.State.{Task, Run, Item, An_object, Counters, State, Choice, raised, word, Frame, Unwind, An_operation}
@@ -28,14 +28,14 @@ use Rattle.aom_machine_instructions.proofs.MachineStateLemmas.{and_true, below_s
 use Rattle.aom_machine_instructions.proofs.MachineStateLemmas.{requests_moved, same_items_length, services_moved, top_value, value_alike, value_here}
 use Rattle.aom_machine_instructions.proofs.MachineStateLemmas.{value_popped, value_pushed, value_written, word_written}
 use Rattle.aom_machine_state.specs.declared.parts.Parts.{Parts}
-use Rattle.aom_machine_instructions.specs.Acts.{At_hand, requested, leaving, Does, DoesIn}
+use Rattle.aom_machine_instructions.specs.Acts.{CurrentFrame, requested, leaving, Does, DoesIn}
 use Rattle.aom_machine_state.specs.Places.{others, set_register, value_in, with_items}
 use Rattle.aom_machine_state.specs.Cells.{refuses, refuses_entry, Made}
 use Rattle.aom_machine_state.specs.Places as places
-use Rattle.aom_machine_state.specs.Agrees.{Represents, SameItems, word_at, Agrees, heard_by}
+use Rattle.aom_machine_state.specs.Agrees.{Represents, SameItems, word_at, Agrees, observed_by}
 use Rattle.aom_machine_instructions.proofs.LeavingActs.{leaves, leaves_at}
 use Rattle.aom_machine_instructions.proofs.ObjectActs.{asks_one, made_agrees, new_small, same_entry_refusal, same_refusal}
-use Rattle.aom_machine_instructions.proofs.Running.{Top, word_here, no_word, free, nothing_held, null_unnamed, unnamed, heard_fits}
+use Rattle.aom_machine_instructions.proofs.Running.{Top, word_here, no_word, free, nothing_held, null_unnamed, unnamed, observed_fits}
 use Rattle.aom_machine_instructions.proofs.Stepping.{agrees_rest}
 use Rattle.aom_machine_instructions.proofs.WordActs.{plain_does, word_read}
 use Rattle.aom_machine_instructions.proofs.GoingOn.{framed, goes_on_as, goes_on_with}
@@ -51,7 +51,7 @@ entry_words us k x = grind (arith, nat_tests, same_cond {A = Option ℤ}, and_tr
 abbrev asked : Parts → Parts
 asked m = record m { rest = record m.rest { requests = raised m.rest.requests } }
 
-module _ (p : Image) (m : Parts) (h : At_hand p m) where
+module _ (p : Image) (m : Parts) (h : CurrentFrame p m) where
   -- over the items there is nothing
   none_over : (f : Machine_frame) (ms : List Machine_task) → Top m h.state h.frame h.below f ms → held h.state.cells (Entry (length h.state.items)) ≡ None
   none_over f ms top = grind (
@@ -69,7 +69,7 @@ held_pushed a m = places.next (with_items (Holds_object (register_here m.stack.t
 abbrev pub held_operation : ℕ → ℕ → Parts → Parts
 held_operation a k m = places.next (with_items (Holds_operation k (register_here m.stack.tasks a) ∷ m.entries.items) (asked m))
 
-module _ (p : Image) (m : Parts) (h : At_hand p m) (r : Counters) (rest : record m.rest { requests = raised m.rest.requests } ≡ r) where
+module _ (p : Image) (m : Parts) (h : CurrentFrame p m) (r : Counters) (rest : record m.rest { requests = raised m.rest.requests } ≡ r) where
   object_pushed : (a : ℕ) → a < 16 → word h.frame a ≡ None →
       Agrees p (held_pushed a m) (applied p h.frame h.below (record h.state { rest = r }) (sets h.frame a None (Pushed a)))
   object_pushed a small wordless =
@@ -81,7 +81,7 @@ module _ (p : Image) (m : Parts) (h : At_hand p m) (r : Counters) (rest : record
       let there = Entry (length s.items) in
       let was = word_here fr ts a ∙ wordless in
       goes_on_with p m h (with_items (Holds_object n ∷ m.entries.items) (asked m)) (moved here there s.cells) (An_object ∷ s.items) r
-      (put_at None fr.words a None) (on_top (with_register a null)) (with_register a null) (λ f ms. refl) (record {
+      (set_extending None fr.words a None) (on_top (with_register a null)) (with_register a null) (λ f ms. refl) (record {
         stack = refl;
         cells = cells_moved p m.cells s.cells here there h.agrees.cells;
         entries = (tt, h.agrees.entries);
@@ -135,9 +135,9 @@ module _ (m : Parts) (lines : LineBuffer) where
   unfolding DoesIn
   push_does a refused small same p h here =
       let s = h.state in
-      let c : Choice = record { name = null; refused = refused; answer = heard_by m } in (
+      let c : Choice = record { name = null; refused = refused; answer = observed_by m } in (
         c,
-        record { name = null_unnamed p m s h.agrees; refusal = same ∙ same_entry_refusal p lines m h (Push a) here refl; answer = heard_fits m },
+        record { name = null_unnamed p m s h.agrees; refusal = same ∙ same_entry_refusal p lines m h (Push a) here refl; answer = observed_fits m },
         refl,
         λ needs typed.
             let was = no_word _ needs.0 in
@@ -150,9 +150,9 @@ module _ (m : Parts) (lines : LineBuffer) where
   unfolding DoesIn
   push_operation_does a k refused same p h here =
       let s = h.state in
-      let c : Choice = record { name = null; refused = refused; answer = heard_by m } in (
+      let c : Choice = record { name = null; refused = refused; answer = observed_by m } in (
         c,
-        record { name = null_unnamed p m s h.agrees; refusal = same ∙ same_entry_refusal p lines m h (PushOperation a k) here refl; answer = heard_fits m },
+        record { name = null_unnamed p m s h.agrees; refusal = same ∙ same_entry_refusal p lines m h (PushOperation a k) here refl; answer = observed_fits m },
         refl,
         λ needs typed.
             let is = word_read p m h a needs.0 in
@@ -165,8 +165,8 @@ module _ (m : Parts) (lines : LineBuffer) where
   pub newl_refused : (a class : ℕ) → true ≡ refuses lines m → Does lines.refused (NewOrLeave a class) m (leaving (negsuc 3) (asked m))
   unfolding DoesIn
   newl_refused a class full p h here = (
-    record { name = null; refused = true; answer = heard_by m },
-    record { name = null_unnamed p m h.state h.agrees; refusal = full ∙ same_refusal p lines m h (NewOrLeave a class) here refl; answer = heard_fits m },
+    record { name = null; refused = true; answer = observed_by m },
+    record { name = null_unnamed p m h.state h.agrees; refusal = full ∙ same_refusal p lines m h (NewOrLeave a class) here refl; answer = observed_fits m },
     refl,
     λ needs typed. leaves_at p (asked m) (requested (NewOrLeave a class) h.state) h.frame h.below no_memory h.top
         (agrees_rest p m h.state _ _ (asks_one m lines h.state.rest h.agrees.rest) h.agrees) needs.1.1.0,
@@ -178,11 +178,11 @@ module _ (m : Parts) (lines : LineBuffer) where
   newl_made a class n heap small granted made p h here = elim made [
     | inl none ↦ absurd (true≢false (sym none.0))
     | inr it ↦ (
-      record { name = n; refused = false; answer = heard_by m },
+      record { name = n; refused = false; answer = observed_by m },
       record {
         name = unnamed p m h.state n h.agrees (new_small p m h heap n class it.4 it.6) it.2;
         refusal = granted ∙ same_refusal p lines m h (NewOrLeave a class) here refl;
-        answer = heard_fits m;
+        answer = observed_fits m;
       },
       refl,
       λ needs typed. made_agrees m lines p h a class n heap _ small (asks_one m lines h.state.rest h.agrees.rest) needs.0 it.1 it.2 it.3 it.4 it.5 it.6,
@@ -207,7 +207,7 @@ module _ (m : Parts) (refused : List ℕ) (es : Machine_items) where
       let was : m.entries.items ≡ Holds_object n ∷ es.items = ap (λ (e : Machine_items). e.items) popped in
       let same = subst (λ is. SameItems is s.items) was h.agrees.entries in
       let deep = same_items_length es.items items (below_same (Holds_object n) es.items s.items same) in
-      goes_on_with p m h (record m { entries = es }) (moved from here s.cells) items s.rest (put_at None fr.words a None) (on_top (with_register a n))
+      goes_on_with p m h (record m { entries = es }) (moved from here s.cells) items s.rest (set_extending None fr.words a None) (on_top (with_register a n))
       (with_register a n) (λ f ms. refl) (record {
         stack = refl;
         cells = cells_moved p m.cells s.cells from here h.agrees.cells;
@@ -252,5 +252,5 @@ module _ (m : Parts) (refused : List ℕ) (es : Machine_items) where
       (others m) (λ d. owns_none i es.items d (operation_owns i es.items s.items same met.1.0)) q)
       (subst (λ is. Represents (value_in (Runs_frame f ∷ ms) m.cells is (others m) q) (word_at (Run fr ∷ ts) q) (held s.cells q)) was (top.values q))))
     where
-      operation_owns : (i : Machine_item) (is : List Machine_item) (js : List Item) → SameItems (i ∷ is) js → tops_operation js ≡ true → owned_by i ≡ null
+      operation_owns : (i : Machine_item) (is : List Machine_item) (js : List Item) → SameItems (i ∷ is) js → top_matches_operation js ≡ true → owned_by i ≡ null
       operation_owns x is js same e = grind arith

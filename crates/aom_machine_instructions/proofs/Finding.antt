@@ -12,18 +12,18 @@ use Rattle.aom_instructions.specs.Table.{action_of}
 use Rattle.aom_instructions.specs.declared.action.Action.TheVariants as action
 use Rattle.aom_instructions.specs.declared.instr.Instr.{Instr}
 use Rattle.aom_image.specs.declared.method.Method.{Method}
-use Rattle.aom_machine_instructions.proofs.ClassesLemmas.{all_there, of_method}
+use Rattle.aom_machine_instructions.proofs.LinkConditionsLemmas.{all_there, of_method}
 use Rattle.aom_cells.specs.Heap.{Lives, null, class_at}
-use Rattle.aom_rules.specs.Typing.{Typing}
+use Rattle.aom_typing_rules.specs.Typing.{Typing}
 use Rattle.aom_semantics.specs.Places.{Place, Register, Going, Elsewhere, Root, Object, held}
-use Rattle.aom_semantics.specs.State.{Asks, Frame, Seat, Task, Run, Trapped, Destroy, Unwind, Dispatched, State}
+use Rattle.aom_semantics.specs.State.{Asks, Frame, OwnedObject, Task, Run, Trapped, Destroy, Unwind, Dispatched, State}
 use Rattle.aom_safety.specs.Claims.{Layer, Method as A_method, Mark, Dying, Unwinding, Dispatching, tasks_of}
 use Rattle.aom_safety.specs.WellTyped.{WellTyped, Good, Stack, Back, Now, Returns, Caught, Leaves}
 use Rattle.aom_safety.specs.Tasks.{Below}
 use Rattle.aom_safety.specs.Traps.{at_traps}
 use Rattle.aom_machine_instructions.proofs.SemanticsLemmas.{held_lives}
 use Rattle.aom_machine_instructions.proofs.SafetyLemmas.{going_layer, leave_layer, method_layer, root_cell}
-use Rattle.aom_frames.specs.Tasks.{Runs, method_here, place_here, register_here, below_first}
+use Rattle.aom_frames.specs.Tasks.{TopFrameIs, method_here, place_here, register_here, below_first}
 use Rattle.aom_frames.specs.declared.frame.Frame.{Frame as Machine_frame}
 use Rattle.aom_frames.specs.declared.task.Task.{Task as Machine_task}
 use Rattle.aom_frames.specs.declared.task.Task.TheVariants.{Trapped as Is_trap}
@@ -36,13 +36,13 @@ use Rattle.aom_machine_state.specs.Room.{ReturnsTo}
 use Rattle.aom_machine_state.specs.Stands.{Sound, Stands}
 use Rattle.std.proofs.lemmas.Bool.{false≢true}
 use Rattle.aom_roles.specs.Things.{is_object}
-use Rattle.aom_shape.specs.Shape.{Shape}
-use Rattle.aom_rules.specs.Typing.{shape_at}
+use Rattle.aom_abstract_state.specs.AbstractState.{AbstractState}
+use Rattle.aom_typing_rules.specs.Typing.{shape_at}
 use Rattle.aom_semantics.specs.State.{Dispatch}
 use Rattle.aom_safety.specs.WellTyped.{Gone}
 use Rattle.aom_machine_instructions.proofs.MachineStateLemmas.{Alike, alike, both_end, both_go, both_run, both_trapped, both_unwind, same_below}
 use Rattle.aom_machine_instructions.proofs.Traps.{code_register}
-use Rattle.aom_machine_instructions.proofs.Housing.{at_hand, destroy_needs}
+use Rattle.aom_machine_instructions.proofs.ReceiverHolding.{has_task, destroy_needs}
 use Rattle.aom_machine_instructions.proofs.Running.{by_top, no_word, object_lives_at}
 use Rattle.aom_machine_instructions.proofs.ObjectActs.{shown}
 use Rattle.aom_machine_instructions.proofs.Stepping.{frame_of, going_of, cell_found}
@@ -79,19 +79,19 @@ module _ (p : Image) (t : Typing) (s : State) (sound : Sound p t) (typed : WellT
       let leads = good.stack.2.0 in
       ap is_some (sound.typed.each fr.method (suc fr.place) leads.0 leads.1).stands))
 
-pub finds_instr : (p : Image) (m : Parts) → Stands (record { image = p; parts = m }) → Runs m.stack.tasks →
+pub finds_instr : (p : Image) (m : Parts) → Stands (record { image = p; parts = m }) → TopFrameIs m.stack.tasks →
     IsSome (instr_at p (method_here m.stack.tasks) (place_here m.stack.tasks))
 finds_instr p m st runs =
     grind (arith, nat_tests, frame_of m.stack.tasks st.0.tasks runs st.1.agrees.tasks, runs_there p st.1.typing st.0 st.1.sound st.1.typed)
 
 -- the next place is no overflow
-pub runs_within : (p : Image) (m : Parts) → Stands (record { image = p; parts = m }) → Runs m.stack.tasks → place_here m.stack.tasks + 1 < 2 ^ 64
+pub runs_within : (p : Image) (m : Parts) → Stands (record { image = p; parts = m }) → TopFrameIs m.stack.tasks → place_here m.stack.tasks + 1 < 2 ^ 64
 runs_within p m st runs = grind (arith, nat_tests, within_code p, finds_instr p m st runs, short p st.1.sound.formed)
 
 -- the number of an object that a place owns is that of a living cell, where it is not null
 module _ (p : Image) (m : Parts) (t : Typing) (s : State) (typed : WellTyped p t s) (agrees : Agrees p m s) where
   pub object_lives : (r : Place) (o : Object) (n : ℕ) → held s.cells r ≡ Some o → is_object o.thing ≡ true → n ≡ o.name → Lives m.cells n
-  object_lives r o n holds object name = subst (Lives m.cells) (sym name) (object_lives_at p m s agrees o (held_lives s.cells r o typed.good.tidy holds) object)
+  object_lives r o n holds object name = subst (Lives m.cells) (sym name) (object_lives_at p m s agrees o (held_lives s.cells r o typed.good.no_duplicates holds) object)
 
   pub number_lives : (r : Place) (n : ℕ) → is_no_message (held s.cells r) ≡ true → n ≡ number (held s.cells r) → (n ≡ null → ⊥) → Lives m.cells n
   number_lives r n object is some = grind (arith, nat_tests, some_given, object_lives r)
@@ -105,7 +105,7 @@ pub destroys_living : (p : Image) (m : Parts) (i : Instr) (a : ℕ) → IsNext p
     (register_here m.stack.tasks a ≡ null → ⊥) → Lives m.cells (register_here m.stack.tasks a)
 destroys_living p counted i a next is some =
     let m = counting next.counts counted in
-    let h = at_hand p m next.stands next.runs in
+    let h = has_task p m next.stands next.runs in
     let n = destroy_needs p counted i a next is in
     by_top p m h (λ us. (register_here us a ≡ null → ⊥) → Lives m.cells (register_here us a)) (λ f ms top some. number_lives p m h.typing h.state h.typed
     h.agrees (Register (length h.below) a) _ n.1.1.0 (shown p m h f ms top a (no_word _ n.1.0)) some) some
@@ -151,35 +151,35 @@ pub data Beneath (p : Image) : List Task → Type 0 where
   a_going : (ts : List Task) → Beneath p (Destroy ∷ ts)
   a_leave : (code : ℤ) (ts : List Task) → Beneath p (Unwind code ∷ ts)
   -- an object's dispatch that asks
-  an_asker : (x : Seat) (ts : List Task) → Beneath p (Dispatched (Asks x) ∷ ts)
+  an_asker : (x : OwnedObject) (ts : List Task) → Beneath p (Dispatched (Asks x) ∷ ts)
 
 -- so it is, by what the task above brings back
 abbrev BeneathBy : Image → Back → List Task → Type 0
-BeneathBy p (Returns m home) ts = Beneath p ts
+BeneathBy p (Returns m receiver) ts = Beneath p ts
 BeneathBy p (Caught g) ts = Beneath p (Trapped ∷ ts)
 BeneathBy p Leaves ts = Beneath p ts × IsTrapOnTop ts
 BeneathBy p _ ts = Unit {0}
 
 module _ (p : Image) (t : Typing) (s : State) (sound : Sound p t) where
-  leads_on : (fr : Frame) (sh : Shape) → shape_at t fr.method (suc fr.place) ≡ Some sh → IsSome (instr_at p fr.method (suc fr.place))
+  leads_on : (fr : Frame) (sh : AbstractState) → shape_at t fr.method (suc fr.place) ≡ Some sh → IsSome (instr_at p fr.method (suc fr.place))
   leads_on fr sh there = ap is_some (sound.typed.each fr.method (suc fr.place) sh there).stands
 
   beneath : (back : Back) (ls : List Layer) → Stack p t s.cells back ls → BeneathBy p back (tasks_of ls)
   beneath Now ls stack = tt
-  beneath (Returns m home) (A_method g sh ∷ ls) stack = a_method g (tasks_of ls) (let leads = stack.0.2 in leads_on g leads.0 leads.1)
-  beneath (Returns m home) (Mark g ∷ ls) stack = beneath (Caught g) ls stack.1
-  beneath (Returns m home) (Dying o ∷ ls) stack = a_going (tasks_of ls)
-  beneath (Returns m home) (Unwinding code es ∷ ls) stack = a_leave code (tasks_of ls)
-  beneath (Returns m home) (Dispatching (Asks x) seats ∷ ls) stack = an_asker x (tasks_of ls)
+  beneath (Returns m receiver) (A_method g sh ∷ ls) stack = a_method g (tasks_of ls) (let leads = stack.0.2 in leads_on g leads.0 leads.1)
+  beneath (Returns m receiver) (Mark g ∷ ls) stack = beneath (Caught g) ls stack.1
+  beneath (Returns m receiver) (Dying o ∷ ls) stack = a_going (tasks_of ls)
+  beneath (Returns m receiver) (Unwinding code es ∷ ls) stack = a_leave code (tasks_of ls)
+  beneath (Returns m receiver) (Dispatching (Asks x) owned_chain ∷ ls) stack = an_asker x (tasks_of ls)
   beneath (Caught g) (A_method fr sh ∷ ls) stack = a_catcher fr (tasks_of ls) (let leads = stack.0.3 in leads_on fr leads.0 leads.1)
-  beneath (Caught g) (Dispatching d seats ∷ ls) stack = a_dispatch d (tasks_of ls)
+  beneath (Caught g) (Dispatching d owned_chain ∷ ls) stack = a_dispatch d (tasks_of ls)
   beneath Gone ls stack = tt
   beneath Leaves (Mark g ∷ ls) stack = (beneath (Caught g) ls stack.1, tt)
   beneath _ _ stack = absurd (grind arith)
 
   pub stands_beneath : (fr : Frame) (ts : List Task) → WellTyped p t s → s.tasks ≡ Run fr ∷ ts → Beneath p ts
   stands_beneath fr ts typed top = method_layer (λ ls. Good p t s.cells ls) fr ts typed.layers
-      (sym typed.tasks ∙ top) typed.good (λ sh ls rest good. subst (Beneath p) rest (beneath (Returns fr.method fr.home) ls good.stack.4))
+      (sym typed.tasks ∙ top) typed.good (λ sh ls rest good. subst (Beneath p) rest (beneath (Returns fr.method fr.receiver) ls good.stack.4))
 
   -- below a leave that unwinds stands a trap
   pub unwinds_over : (code : ℤ) (ts : List Task) → WellTyped p t s → s.tasks ≡ Unwind code ∷ ts → Beneath p ts × IsTrapOnTop ts
@@ -202,7 +202,7 @@ module _ (p : Image) (formed : WellFormed p) where
   held_beneath (an_asker x _) (both_end held _ _ _ same _ _) fits = tt
 
 -- a method that returns has something to return to
-pub returns_to : (p : Image) (m : Parts) → Stands (record { image = p; parts = m }) → Runs m.stack.tasks → ReturnsTo p (below_first m.stack.tasks)
+pub returns_to : (p : Image) (m : Parts) → Stands (record { image = p; parts = m }) → TopFrameIs m.stack.tasks → ReturnsTo p (below_first m.stack.tasks)
 returns_to p m st runs = grind (
   arith,
   nat_tests,
@@ -214,7 +214,7 @@ returns_to p m st runs = grind (
 )
 
 -- the method that runs is one of the image
-pub finds_method : (p : Image) (m : Parts) → Stands (record { image = p; parts = m }) → Runs m.stack.tasks → IsSome (method_at p (method_here m.stack.tasks))
+pub finds_method : (p : Image) (m : Parts) → Stands (record { image = p; parts = m }) → TopFrameIs m.stack.tasks → IsSome (method_at p (method_here m.stack.tasks))
 finds_method p m st runs = some_given (λ o. IsSome o) (instr_at p (method_here m.stack.tasks) (place_here m.stack.tasks))
     (finds_instr p m st runs) (λ some. cc) (λ i e some. ap is_some (of_method p (method_here m.stack.tasks) (place_here m.stack.tasks) i e).1)
 

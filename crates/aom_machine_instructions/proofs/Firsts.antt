@@ -5,22 +5,22 @@ use Rattle.std.proofs.Common.{Bool, List, None, Option, Some, [], ap, cond, fals
 use Rattle.std.proofs.lemmas.Bool.{eq-eqb, true≢false}
 use Rattle.std.proofs.lemmas.Option.{none-some, same_Some}
 use Rattle.aom_cells.specs.Heap.{Lives, null}
-use Rattle.aom_clients.specs.Clients.{State as Machine_clients, client_at, first_there, sessions_at}
+use Rattle.aom_clients.specs.Clients.{ClientsState as Machine_clients, client_at, first_there, sessions_at}
 use Rattle.aom_clients.specs.Table.{has_cell, no_cell, server_of, session_of}
 use Rattle.aom_clients.specs.declared.client.Client.{Client}
 use Rattle.aom_clients.specs.declared.client.Client.TheVariants.{Closing, Dying, Open}
 use Rattle.aom_image.specs.Image.{Image}
-use Rattle.aom_rules.specs.Typing.{Typing}
-use Rattle.aom_shape.specs.declared.kind.Age.TheVariants.{Ready}
-use Rattle.aom_shape.specs.declared.kind.Kind.TheVariants.{Own}
+use Rattle.aom_typing_rules.specs.Typing.{Typing}
+use Rattle.aom_abstract_state.specs.declared.kind.InitState.TheVariants.{Ready}
+use Rattle.aom_abstract_state.specs.declared.kind.Kind.TheVariants.{Own}
 use Rattle.aom_machine_instructions.proofs.SafetyLemmas.{closing_layer, own_held, session_object}
 use Rattle.aom_machine_instructions.proofs.SemanticsLemmas.{held_lives}
 use Rattle.aom_safety.specs.Claims.{Dying as Dying_layer, Ending, Layer, claim, declared, tasks_of}
-use Rattle.aom_semantics.specs.Destruction.{first_session, seat_or}
+use Rattle.aom_semantics.specs.Destruction.{first_session, owned_object_or}
 use Rattle.aom_safety.specs.Kept.{ClientsFit}
 use Rattle.aom_semantics.specs.Places.{Elsewhere, Going, Object, Place, Session, held, seen, service_of}
 use Rattle.aom_semantics.specs.Servers.{is_among}
-use Rattle.aom_semantics.specs.State.{Closing as Closing_task, Destroy, Seat, State, Task}
+use Rattle.aom_semantics.specs.State.{Closing as Closing_task, Destroy, OwnedObject, State, Task}
 use Rattle.aom_safety.specs.WellTyped.{Fits, Good, IsOverDying, WellTyped}
 use Rattle.aom_machine_state.specs.Agrees.{Agrees, number}
 use Rattle.aom_machine_state.specs.Places.{session_number, session_with}
@@ -82,10 +82,10 @@ module _ (p : Image) (m : Parts) (t : Typing) (s : State) (typed : WellTyped p t
   none_there c at gone = grind (arith, nat_tests, nothing_held p m t s typed agrees, shows_none n)
 
   -- the seat of the session of that client, whose number is that
-  pub record IsSeat (c r : ℕ) (o : Option Seat) : Type 0 where
+  pub record IsOwnedObject (c r : ℕ) (o : Option OwnedObject) : Type 0 where
     pub object : Object
     pub held : held s.cells (its c) ≡ Some object
-    pub seat : o ≡ Some (record { object = object; place = its c })
+    pub owned_object : o ≡ Some (record { object = object; place = its c })
     pub number : r ≡ object.name
 
   one_there : (c : ℕ) → server_of (client_at m.clients c) ≡ Some n → has_cell (client_at m.clients c) ≡ true →
@@ -110,16 +110,16 @@ module _ (p : Image) (m : Parts) (t : Typing) (s : State) (typed : WellTyped p t
       go : (b : Bool) → has_cell (client_at m.clients c) ≡ b → cond b (Some c) (first_there m.clients cs) ≡ None →
           (first_there m.clients cs ≡ None → first_session s.cells n cs ≡ None) → first_session s.cells n (c ∷ cs) ≡ None
       go true there e rest = absurd (none-some c (sym e))
-      go false gone e rest = ap (λ o. seat_or o (its c) (first_session s.cells n cs)) (none_there c (first_with c cs all) gone) ∙ rest e
+      go false gone e rest = ap (λ o. owned_object_or o (its c) (first_session s.cells n cs)) (none_there c (first_with c cs all) gone) ∙ rest e
 
   -- and where it finds a client, its session is the first
   some_first : (cs : List ℕ) → With cs → (c r : ℕ) → first_there m.clients cs ≡ Some c → session_of (client_at m.clients c) ≡ Some r → (r ≡ null → ⊥) →
-      IsSeat c r (first_session s.cells n cs)
+      IsOwnedObject c r (first_session s.cells n cs)
   some_first [] all c r e is some = absurd (none-some c e)
   some_first (d ∷ cs) all c r e is some = go (has_cell (client_at m.clients d)) refl e (λ e. some_first cs (rest_with d cs all) c r e is some)
     where
       go : (b : Bool) → has_cell (client_at m.clients d) ≡ b → cond b (Some d) (first_there m.clients cs) ≡ Some c →
-          (first_there m.clients cs ≡ Some c → IsSeat c r (first_session s.cells n cs)) → IsSeat c r (first_session s.cells n (d ∷ cs))
+          (first_there m.clients cs ≡ Some c → IsOwnedObject c r (first_session s.cells n cs)) → IsOwnedObject c r (first_session s.cells n (d ∷ cs))
       go true there e rest =
           let same = same_Some d c e in
           let x = one_there c (subst (λ k. server_of (client_at m.clients k) ≡ Some n) same (first_with d cs all))
@@ -127,10 +127,10 @@ module _ (p : Image) (m : Parts) (t : Typing) (s : State) (typed : WellTyped p t
           record {
             object = x.0;
             held = x.1;
-            seat = ap (λ k. seat_or (held s.cells (its k)) (its k) (first_session s.cells n cs)) same ∙ ap (λ o. seat_or o (its c) (first_session s.cells n cs)) x.1;
+            owned_object = ap (λ k. owned_object_or (held s.cells (its k)) (its k) (first_session s.cells n cs)) same ∙ ap (λ o. owned_object_or o (its c) (first_session s.cells n cs)) x.1;
             number = x.2;
           }
-      go false gone e rest = subst (IsSeat c r) (sym (ap (λ o. seat_or o (its d) (first_session s.cells n cs)) (none_there d (first_with d cs all) gone))) (rest e)
+      go false gone e rest = subst (IsOwnedObject c r) (sym (ap (λ o. owned_object_or o (its d) (first_session s.cells n cs)) (none_there d (first_with d cs all) gone))) (rest e)
 
   -- ---- of a server's own sessions
 
@@ -142,7 +142,7 @@ module _ (p : Image) (m : Parts) (t : Typing) (s : State) (typed : WellTyped p t
     no_session e = grind (arith, nat_tests, none_first, own_with)
 
     pub its_session : (c r : ℕ) → first_there m.clients (sessions_at m.clients n) ≡ Some c → session_of (client_at m.clients c) ≡ Some r → (r ≡ null → ⊥) →
-        IsSeat c r (first_session s.cells n (service_of s.cells n).sessions)
+        IsOwnedObject c r (first_session s.cells n (service_of s.cells n).sessions)
     its_session c r e is some =
         some_first (service_of s.cells n).sessions own_with c r (ap (first_there m.clients) (sym (agrees.services.clients.sessions n)) ∙ e) is some
 
@@ -152,7 +152,7 @@ module _ (p : Image) (m : Parts) (t : Typing) (s : State) (typed : WellTyped p t
 pub session_lives : (p : Image) (m : Parts) (t : Typing) (s : State) → WellTyped p t s → Agrees p m s → (n c : ℕ) (o : Object) →
     held s.cells (Elsewhere (Session n c)) ≡ Some o → Lives m.cells o.name
 session_lives p m t s w agrees n c o e =
-    object_lives_at p m s agrees o (held_lives s.cells (Elsewhere (Session n c)) o w.good.tidy e) (session_object p n c t s w o e)
+    object_lives_at p m s agrees o (held_lives s.cells (Elsewhere (Session n c)) o w.good.no_duplicates e) (session_object p n c t s w o e)
 
 -- ---- what closes its sessions
 

@@ -1,6 +1,6 @@
 -- How a destruction begins, and the going of a cell.
 use Rattle.std.proofs.lemmas.Bool.Decides.{nat_tests}
-use Rattle.aom_machine_instructions.proofs.FamiliesLemmas.{families_inherit}
+use Rattle.aom_machine_instructions.proofs.InheritanceLemmas.{families_inherit}
 use Rattle.aom_image.specs.declared.method.Role.TheVariants.{Destruct}
 use Rattle.aom_image.specs.Views.{method_class, class_in}
 use Rattle.aom_frames.specs.declared.view.View.{View}
@@ -19,12 +19,12 @@ use Rattle.aom_image.specs.declared.method.Thing.{Thing}
 use Rattle.aom_image.specs.declared.method.Thing.TheVariants.{Message, Object as An_object_of}
 use Rattle.aom_cells.specs.Heap.{Heap, null, cell_at, class_at, class_of, field_at, Changes}
 use Rattle.aom_cells.specs.declared.cell.Cell.{Cell as Machine_cell}
-use Rattle.aom_rules.specs.Typing.{Typing}
+use Rattle.aom_typing_rules.specs.Typing.{Typing}
 use Rattle.aom_semantics.specs.Places.{Place, Register, Field, Going, Elsewhere, Root, same_place, Object, Cell, held, named, moved, changed}
 use Rattle.aom_semantics.specs.Effects.{applied, deletes}
-use Rattle.aom_semantics.specs.State.{Home, frame_as, frame_of, home_view, word, set_word, Dispatch, Of_root, Task}
+use Rattle.aom_semantics.specs.State.{Receiver, frame_as, frame_of, receiver_view, word, set_word, Dispatch, Of_root, Task}
 use Rattle.aom_semantics.specs.State.{Run, Closing, Destroy, Dispatched, resumed, Counters, State, raised}
-use Rattle.aom_classes.specs.Roles.{destructor_of}
+use Rattle.aom_link_conditions.specs.Roles.{destructor_of}
 use Rattle.aom_semantics.specs.Destruction as checked
 use Rattle.aom_semantics.specs.Destruction.{begun_by, is_field_of, owns_nothing}
 use Rattle.aom_semantics.specs.Objects.{is_no_message}
@@ -47,9 +47,9 @@ use Rattle.aom_frames.specs.declared.dispatch.Dispatch.{Dispatch as Machine_disp
 use Rattle.aom_frames.specs.declared.dispatch.Dispatch.TheVariants.{Root as End_of_run}
 use Rattle.aom_machine_state.specs.declared.parts.Parts.{Parts}
 use Rattle.aom_machine_state.specs.Places.{others, Others, value_in, going_in, with_tasks}
-use Rattle.aom_machine_instructions.specs.Going.{begun, destructed, destructor_in, destructor_at, dying, is_server_class, uprooted}
+use Rattle.aom_machine_instructions.specs.Going.{begun, destructed, destructor_in, destructor_at, dying, is_server_class, root_removed}
 use Rattle.aom_machine_state.specs.Agrees.{word_at, Represents, SameTasks, thing_in, number, Agrees}
-use Rattle.aom_machine_instructions.specs.Acts.{At_hand, In_going, DoesIn}
+use Rattle.aom_machine_instructions.specs.Acts.{CurrentFrame, In_going, DoesIn}
 use Rattle.aom_machine_instructions.proofs.Running.{begun_as, Aside, agrees_with, aside_moved, object_class, object_small, object_there, Top}
 use Rattle.aom_machine_instructions.proofs.Running.{by_top, reframed, moved_on, begun_registers, word_here, no_word, nothing_held, some_held}
 use Rattle.aom_machine_instructions.proofs.ObjectActs.{destroy_does, shown}
@@ -64,12 +64,12 @@ pub fresh_value : (method this : ℕ) (us : List Machine_task) (h : Heap) (es : 
     value_in (Runs_frame (fresh method this) ∷ us) h es rest r ≡ value_in us h es rest r
 fresh_value method this us h es rest r = fresh_with method this own us h es rest r
 
-pub fresh_as : (method : ℕ) (home : Home) (view : Option ℕ) (height : ℕ) (ts : List Task) (r : Place) →
-    word_at (Run (frame_as method home view height) ∷ ts) r ≡ word_at ts r
-fresh_as method home view height ts x = grind (arith, nat_tests, at_depth, word_past ts)
+pub fresh_as : (method : ℕ) (receiver : Receiver) (view : Option ℕ) (height : ℕ) (ts : List Task) (r : Place) →
+    word_at (Run (frame_as method receiver view height) ∷ ts) r ≡ word_at ts r
+fresh_as method receiver view height ts x = grind (arith, nat_tests, at_depth, word_past ts)
 
-pub fresh_word : (method : ℕ) (home : Home) (height : ℕ) (ts : List Task) (r : Place) → word_at (Run (frame_of method home height) ∷ ts) r ≡ word_at ts r
-fresh_word method home height ts r = fresh_as method home (home_view home) height ts r
+pub fresh_word : (method : ℕ) (receiver : Receiver) (height : ℕ) (ts : List Task) (r : Place) → word_at (Run (frame_of method receiver height) ∷ ts) r ≡ word_at ts r
+fresh_word method receiver height ts r = fresh_as method receiver (receiver_view receiver) height ts r
 
 -- nor does what lets go of sessions
 pub closes_value : (us : List Machine_task) (h : Heap) (es : List Item) (rest : Others) (r : Place) → value_in (Closes ∷ us) h es rest r ≡ value_in us h es rest r
@@ -146,7 +146,7 @@ module _ (p : Image) (m : Parts) (refused : List ℕ) where
       deleted f ms =
           with_tasks (dying p m.cells (slice_index_or f.registers a null) (Runs_frame (record f { registers = slice_set f.registers a null }) ∷ ms)) m
 
-      object : (h : At_hand p m) (f : Machine_frame) (ms : List Machine_task) → Top m h.state h.frame h.below f ms →
+      object : (h : CurrentFrame p m) (f : Machine_frame) (ms : List Machine_task) → Top m h.state h.frame h.below f ms →
           word h.frame a ≡ None → (o : Object) → held h.state.cells (Register (length h.below) a) ≡ Some o → is_object o.thing ≡ true
           → Agrees p (deleted f ms) (applied p h.frame h.below h.state (deletes h.frame (Some o) a))
       object h f ms top none o e cell =
@@ -160,7 +160,7 @@ module _ (p : Image) (m : Parts) (refused : List ℕ) where
           let vs = Run (set_word fr a None) ∷ ts in
           let was = word_here fr ts a ∙ none in
           let name : k ≡ o.name = shown p m h f ms top a none ∙ ap number e in
-          let lives = held_lives s.cells here o h.typed.good.tidy e in
+          let lives = held_lives s.cells here o h.typed.good.no_duplicates e in
           let below = object_small p m s h.formed h.agrees o lives cell in
           let v : State = record s { cells = moved here (Going (suc (length ts))) s.cells } in
           let empty : held s.cells (Going (suc (length ts))) ≡ None = nothing_held p m h.typing s h.typed h.agrees (Going (suc (length ts)))
@@ -185,18 +185,18 @@ pub end_word : (d e : Dispatch) (q : Place) → word_at (Dispatched d ∷ []) q 
 end_word d e _ = refl
 
 -- where a dispatch is at its end, the root is at hand to go, with these counts
-pub uproots : (p : Image) → WellFormed p → (m : Parts) (t : Typing) (s : State) (x : Machine_dispatch) (d : Dispatch) (o : Object) (rest r : Counters) →
+pub removes_root : (p : Image) → WellFormed p → (m : Parts) (t : Typing) (s : State) (x : Machine_dispatch) (d : Dispatch) (o : Object) (rest r : Counters) →
     WellTyped p t s → Agrees p m s → m.stack.tasks ≡ Ends x ∷ [] → s.tasks ≡ Dispatched d ∷ [] →
-    held s.cells (Elsewhere Root) ≡ Some o → record rest { clock = raised rest.clock } ≡ r → Agrees p (uprooted p (record m { rest = rest }))
+    held s.cells (Elsewhere Root) ≡ Some o → record rest { clock = raised rest.clock } ≡ r → Agrees p (root_removed p (record m { rest = rest }))
     (record s { cells = moved (Elsewhere Root) (Going 1) s.cells; tasks = checked.begun p o (length s.items) (Dispatched Of_root ∷ []); rest = r })
-uproots p formed m t s x d o rest r typed agrees held_top top e same =
+removes_root p formed m t s x d o rest r typed agrees held_top top e same =
     let old = value_in (Ends x ∷ []) m.cells m.entries.items (others m) in
     let w = word_at (Dispatched d ∷ []) in
     let mid = record m { root = null; rest = record rest { clock = raised rest.clock } } in
     let v : State = record s { cells = moved (Elsewhere Root) (Going 1) s.cells; rest = r } in
     let values : (q : Place) → Represents (old q) (w q) (held s.cells q) = grind (arith, nat_tests) in
     let name : m.root ≡ o.name = values (Elsewhere Root) ∙ ap number e in
-    let lives = held_lives s.cells (Elsewhere Root) o typed.good.tidy e in
+    let lives = held_lives s.cells (Elsewhere Root) o typed.good.no_duplicates e in
     let cell = root_object p t s typed o e in
     let aside = aside_moved p m s (Elsewhere Root) (Going 1) agrees refl refl in
     subst (λ ms. Agrees p (with_tasks (dying p m.cells m.root (Ends End_of_run ∷ ms)) mid)
@@ -295,4 +295,4 @@ module _ (p : Image) (m : Parts) (h : In_going p m) (o : Object) where
 
   pub going_object : (x : ℕ) (ms : List Machine_task) → Ends_cell m h.state x ms h.below → held h.state.cells (Going (length h.below)) ≡ Some o →
       is_object o.thing ≡ true
-  going_object x ms top holds = object_there p m h.state h.agrees o (held_lives h.state.cells _ o h.typed.good.tidy holds) (going_small x ms top holds)
+  going_object x ms top holds = object_there p m h.state h.agrees o (held_lives h.state.cells _ o h.typed.good.no_duplicates holds) (going_small x ms top holds)

@@ -6,10 +6,10 @@ use Rattle.std.specs.Prelude.{IsSome, flat_map, is_some, map}
 use Rattle.std.proofs.lemmas.Bool.{and_parts, eq-eqb, eqb-true, false≢true, or_right}
 use Rattle.std.proofs.lemmas.List.{append_assoc, get_or_past, length-append}
 use Rattle.aom_machine_instructions.proofs.ImageLemmas.{some_given}
-use Rattle.aom_active.specs.Agrees.{Active}
+use Rattle.aom_active_objects.specs.Agrees.{Active}
 use Rattle.aom_cells.specs.Heap.{Changes, Heap, Lives, cell_at, class_at, count, null}
 use Rattle.aom_clients.specs.Clients as kept
-use Rattle.aom_clients.specs.Table.{at_gone, server_of}
+use Rattle.aom_clients.specs.Table.{after_server_destroyed, server_of}
 use Rattle.aom_clients.specs.declared.client.Client.{Client}
 use Rattle.aom_clients.specs.declared.client.Client.TheVariants.{Unconnected}
 use Rattle.aom_clients.specs.declared.entry.QueueEntry.{QueueEntry}
@@ -23,28 +23,28 @@ use Rattle.aom_machine_state.specs.LineBuffer.{LineBuffer}
 use Rattle.aom_cells.specs.Store.{Store, count as count_kept, message_at}
 use Rattle.aom_cells.specs.Sessions.{Sets, Standing}
 use Rattle.aom_machine_instructions.proofs.SemanticsLemmas.{held_lives, held_without, named_without, requested_without, unnamed}
-use Rattle.aom_machine_instructions.proofs.SafetyLemmas.{Alike, cell_of, cell_of_sifted, each_unslotted_alike, each_unslotted_requests, going_layer}
+use Rattle.aom_machine_instructions.proofs.SafetyLemmas.{Alike, cell_of, cell_of_filtered_cells, each_slot_released_alike, each_slot_released_requests, going_layer}
 use Rattle.aom_machine_instructions.proofs.SafetyLemmas.{kept as left_of, named_cell, object_in, request_in, requested_cell, service_cell, service_in}
-use Rattle.aom_machine_instructions.proofs.SafetyLemmas.{tidy_sifted, unqueued_so}
-use Rattle.aom_semantics.specs.Clients.{each_unslotted}
-use Rattle.aom_semantics.specs.Destruction.{is_field_of, owns_nothing, vanished}
-use Rattle.aom_safety.specs.Kept.{IsKept, QueueFits}
+use Rattle.aom_machine_instructions.proofs.SafetyLemmas.{tidy_filtered_cells, unqueued_so}
+use Rattle.aom_semantics.specs.Clients.{each_slot_released}
+use Rattle.aom_semantics.specs.Destruction.{is_field_of, owns_nothing, reclaimed}
+use Rattle.aom_safety.specs.Kept.{StateInvariant, QueueFits}
 use Rattle.aom_semantics.specs.Lines.{queue_lines}
 use Rattle.aom_semantics.specs.Moves.{goes_line}
 use Rattle.aom_semantics.specs.Places.{Cell, Elsewhere, Field, Going, Object, Place, Queued, Request, Service}
-use Rattle.aom_semantics.specs.Places.{Session, Tidy, changed, held, named, requested, service_of, without}
-use Rattle.aom_safety.specs.Requests.{Suits, resting_in, states_claim, thing_kind}
+use Rattle.aom_semantics.specs.Places.{Session, NoDuplicates, changed, held, named, requested, service_of, without}
+use Rattle.aom_safety.specs.Requests.{ConformsTo, resting_in, states_claim, thing_kind}
 use Rattle.aom_semantics.specs.Servers.{is_among, is_queue, is_queue_of, without_queue}
 use Rattle.aom_semantics.specs.State.{Destroy, State, Task, resumed}
 use Rattle.aom_safety.specs.WellTyped.{Good, WellTyped}
 use Rattle.aom_transcript.specs.declared.line.Line.TheVariants.{Gone}
-use Rattle.aom_machine_instructions.proofs.MachineStateLemmas.{Beside, NamedBeside, SessionsSame, at_set_or, beside_unqueued, cells_beside, cells_unslotted}
+use Rattle.aom_machine_instructions.proofs.MachineStateLemmas.{Beside, NamedBeside, SessionsSame, at_set_or, beside_unqueued, cells_beside, cells_slot_released}
 use Rattle.aom_machine_instructions.proofs.MachineStateLemmas.{cells_without, connecting_here, destroys_value, destroys_word, going_past}
 use Rattle.aom_machine_instructions.proofs.MachineStateLemmas.{gone_lines as lines_of_entry, holds_unqueued, listed_beside, listed_gone, messages_unqueued}
-use Rattle.aom_machine_instructions.proofs.MachineStateLemmas.{messages_unslotted, messages_wait, messages_without, natives_beside, natives_gone}
-use Rattle.aom_machine_instructions.proofs.MachineStateLemmas.{natives_unslotted, places_in, queue_told, requests_beside, requests_gone, requests_unslotted}
-use Rattle.aom_machine_instructions.proofs.MachineStateLemmas.{same_gone, shows_again, sized_gone, tokens_beside, tokens_unslotted, tokens_without}
-use Rattle.aom_machine_instructions.proofs.MachineStateLemmas.{told_unqueued, unowned, waiting_kept, waiting_once, writes}
+use Rattle.aom_machine_instructions.proofs.MachineStateLemmas.{messages_slot_released, messages_wait, messages_without, natives_beside, natives_gone}
+use Rattle.aom_machine_instructions.proofs.MachineStateLemmas.{natives_slot_released, places_in, queue_reported, requests_beside, requests_gone, requests_slot_released}
+use Rattle.aom_machine_instructions.proofs.MachineStateLemmas.{same_gone, shows_again, sized_gone, tokens_beside, tokens_slot_released, tokens_without}
+use Rattle.aom_machine_instructions.proofs.MachineStateLemmas.{reported_unqueued, unowned, waiting_kept, waiting_once, writes}
 use Rattle.aom_machine_state.specs.Agrees.{Agrees, Represents, number, word_at}
 use Rattle.aom_machine_state.specs.Cells.{Delists, unlisted}
 use Rattle.aom_machine_state.specs.Listing.{SameListed, lists, order_in}
@@ -64,7 +64,7 @@ use Rattle.aom_machine_instructions.proofs.GoingActs.{Ends_cell, by_going, field
 use Rattle.aom_machine_instructions.proofs.GoingActs.{number_of, over, same_resumed, thing_of_it, value_resumed, word_resumed}
 use Rattle.aom_machine_instructions.proofs.ReturnActs.{lives_within}
 use Rattle.aom_machine_instructions.specs.Acts.{GoesAway, In_going}
-use Rattle.aom_machine_instructions.specs.Serving.{AllKept, CanVanish, Drops, answers, count_messages, gone_lines, has_message}
+use Rattle.aom_machine_instructions.specs.Serving.{AllKept, CanReclaim, Drops, answers, count_messages, gone_lines, has_message}
 
 -- ---- entries and the places of their messages
 
@@ -145,7 +145,7 @@ none_of_then : (s s' : kept.State) → SessionsSame s s' → (cs : List ℕ) →
 none_of_then s s' same [] none = tt
 none_of_then s s' same (c ∷ cs) none = (none_then s s' same c none.0, none_of_then s s' same cs none.1)
 
-gone_none : (x : Client) (i : ℕ) → session_with i x ≡ null → session_with i (at_gone x) ≡ null
+gone_none : (x : Client) (i : ℕ) → session_with i x ≡ null → session_with i (after_server_destroyed x) ≡ null
 gone_none x i e = grind arith
 
 sessions_same : (n : ℕ) (cs : List ℕ) (s : kept.State) → NoneOf s cs → SessionsSame s (kept.sessions_gone n cs s)
@@ -154,13 +154,13 @@ sessions_same n (c ∷ cs) s none =
     λ i d. sessions_same n cs (kept.session_gone n (c ∷ cs) s) (none_of_then s (kept.session_gone n (c ∷ cs) s) one cs none.1) i d ∙ one i d
   where
     one : SessionsSame s (kept.session_gone n (c ∷ cs) s)
-    one = set_same s (kept.session_gone n (c ∷ cs) s) c (at_gone (kept.client_at s c)) refl
-        (λ large. ap at_gone (get_or_past s.clients c Unconnected large)) none.0 (λ i. gone_none (kept.client_at s c) i (none.0 i))
+    one = set_same s (kept.session_gone n (c ∷ cs) s) c (after_server_destroyed (kept.client_at s c)) refl
+        (λ large. ap after_server_destroyed (get_or_past s.clients c Unconnected large)) none.0 (λ i. gone_none (kept.client_at s c) i (none.0 i))
 
 -- what is about to go waits for no token
-last_untold : (k : Option ClassKind) (r : Option Request) → Suits k (resting_in (last_of k)) r → awaited r ≡ None
+last_unreported : (k : Option ClassKind) (r : Option Request) → ConformsTo k (resting_in (last_of k)) r → awaited r ≡ None
 unfolding last_of
-last_untold k r s = grind arith
+last_unreported k r s = grind arith
 
 -- ---- the going of a cell
 
@@ -195,13 +195,13 @@ module _ (p : Image) (m : Parts) (h : In_going p m)
   gone = without g unqueued
 
   abbrev after : List Cell
-  after = each_unslotted xs gone
+  after = each_slot_released xs gone
 
   same : SameClients m.clients h.state.cells h.state.clients
   same = h.agrees.services.clients
 
   lives : named h.state.cells o.name ≡ Some o
-  lives = held_lives s.cells g o h.typed.good.tidy holds
+  lives = held_lives s.cells g o h.typed.good.no_duplicates holds
 
   beside : Beside s.cells unqueued
   beside = beside_unqueued p h.typing h.wired s h.typed h.kept.fit k same m.messages h.agrees.services.messages n
@@ -212,21 +212,21 @@ module _ (p : Image) (m : Parts) (h : In_going p m)
   there : held unqueued g ≡ Some o
   there = unqueued_holds g refl ∙ holds
 
-  tidy : Tidy unqueued
-  tidy = subst Tidy (sym (unqueued_so n s.cells)) (tidy_sifted (λ c. is_queue_of n c.owner) (λ c. c.service) s.cells h.typed.good.tidy)
+  no_duplicates : NoDuplicates unqueued
+  no_duplicates = subst NoDuplicates (sym (unqueued_so n s.cells)) (tidy_filtered_cells (λ c. is_queue_of n c.owner) (λ c. c.service) s.cells h.typed.good.no_duplicates)
 
   lives_there : named unqueued o.name ≡ Some o
-  lives_there = held_lives unqueued g o tidy there
+  lives_there = held_lives unqueued g o no_duplicates there
 
   -- it waits for no token
-  going_untold : awaited (requested s.cells o.name) ≡ None
-  going_untold = going_layer (λ ls. Good p h.typing s.cells ls) ts h.typed.layers (sym h.typed.tasks ∙ h.top) h.typed.good (λ x ls under good.
+  going_unreported : awaited (requested s.cells o.name) ≡ None
+  going_unreported = going_layer (λ ls. Good p h.typing s.cells ls) ts h.typed.layers (sym h.typed.tasks ∙ h.top) h.typed.good (λ x ls under good.
       let held_there : held s.cells g ≡ Some x = ap (λ us. held s.cells (Going (length us))) (sym under) ∙ good.stack.0.1 in
       let is : x ≡ o = same_Some x o (sym held_there ∙ holds) in
       let last = resting_in (last_of (thing_kind p x.thing)) in
-      let suits = subst (λ b. Suits (thing_kind p x.thing) (cond b last (states_claim p x ls)) (requested s.cells x.name)) (eq-eqb x.name x.name refl)
-      (good.suits x good.stack.0.0) in
-      ap (λ (y : Object). awaited (requested s.cells y.name)) (sym is) ∙ last_untold (thing_kind p x.thing) (requested s.cells x.name) suits)
+      let conforms_to = subst (λ b. ConformsTo (thing_kind p x.thing) (cond b last (states_claim p x ls)) (requested s.cells x.name)) (eq-eqb x.name x.name refl)
+      (good.conforms_to x good.stack.0.0) in
+      ap (λ (y : Object). awaited (requested s.cells y.name)) (sym is) ∙ last_unreported (thing_kind p x.thing) (requested s.cells x.name) conforms_to)
 
   -- no session is there
   no_session_there : (c : ℕ) → held s.cells (Elsewhere (Session n c)) ≡ None
@@ -275,7 +275,7 @@ module _ (p : Image) (m : Parts) (h : In_going p m)
   queue_stays i asked = go (beside.names i) (cell_of s.cells i) refl
     where
       left : (x : Option Cell) → cell_of s.cells i ≡ x → cell_of unqueued i ≡ left_of (λ c. is_queue_of n c.owner) (λ c. c.service) x
-      left x e = ap (λ cs. cell_of cs i) (unqueued_so n s.cells) ∙ cell_of_sifted (λ c. is_queue_of n c.owner) (λ c. c.service) s.cells i h.typed.good.tidy
+      left x e = ap (λ cs. cell_of cs i) (unqueued_so n s.cells) ∙ cell_of_filtered_cells (λ c. is_queue_of n c.owner) (λ c. c.service) s.cells i h.typed.good.no_duplicates
           ∙ ap (left_of (λ c. is_queue_of n c.owner) (λ c. c.service)) e
 
       here : (c : Cell) → cell_of s.cells i ≡ Some c → named unqueued i ≡ named s.cells i → (b : Bool) → is_queue_of n c.owner ≡ b →
@@ -296,7 +296,7 @@ module _ (p : Image) (m : Parts) (h : In_going p m)
   -- the places show what they showed, but for what goes
   module _ (heap : Heap) (a : Active) (w : Standing) (store : Store) (cleared : Changes m.cells heap o.name None) (less : count heap + 1 ≡ count m.cells)
       (off : Delists m.active a o.name) (shut : Sets m.sessions w o.name false) (drops : Drops (kept.queue_at m.clients o.name) m.messages store)
-      (typed : WellTyped p h.typing (vanished o h.below h.state)) (fits : IsKept p (vanished o h.below h.state)) (x : ℕ) (ms : List Machine_task)
+      (typed : WellTyped p h.typing (reclaimed o h.below h.state)) (fits : StateInvariant p (reclaimed o h.below h.state)) (x : ℕ) (ms : List Machine_task)
       (top : Ends_cell m h.state x ms h.below) where
     object : is_object o.thing ≡ true
     object = going_object p m h o x ms top holds
@@ -307,11 +307,11 @@ module _ (p : Image) (m : Parts) (h : In_going p m)
     within : o.name < p.header.cells
     within = lives_within p m s h.agrees o lives object
 
-    clients_gone : SameClients k' after (vanished o ts s).clients
+    clients_gone : SameClients k' after (reclaimed o ts s).clients
     clients_gone = same_gone p h.typing h.wired s h.typed h.kept.fit k same p.header.cells h.agrees.services.sized g o holds refl small within
 
     held_after : (r : Place) → is_queue r ≡ false → held after r ≡ held (without g s.cells) r
-    held_after r apart = (each_unslotted_alike xs gone).held_so r ∙ held_without unqueued g r ∙ ap (λ o. changed (λ q. o) g None r) (unqueued_holds r apart)
+    held_after r apart = (each_slot_released_alike xs gone).held_so r ∙ held_without unqueued g r ∙ ap (λ o. changed (λ q. o) g None r) (unqueued_holds r apart)
         ∙ sym (held_without s.cells g r)
 
     in_no_queue : (r : Place) → ((i j : ℕ) → r ≡ Elsewhere (Queued i j) → ⊥) → is_queue r ≡ false
@@ -333,40 +333,40 @@ module _ (p : Image) (m : Parts) (h : In_going p m)
 
     listed_so : SameListed p (unlisted n m.listed) after
     listed_so = listed_gone p m.listed unqueued after n (λ class. ap (λ o. lists p class o (requested after n))
-        (each.named_so n ∙ unnamed unqueued g o tidy there)) (λ i class other. ap (λ o. lists p class o (requested after i))
-        (each.named_so i ∙ named_without unqueued g o i tidy there other) ∙ ap (lists p class (named unqueued i)) (asked i other))
+        (each.named_so n ∙ unnamed unqueued g o no_duplicates there)) (λ i class other. ap (λ o. lists p class o (requested after i))
+        (each.named_so i ∙ named_without unqueued g o i no_duplicates there other) ∙ ap (lists p class (named unqueued i)) (asked i other))
         (λ i other. ap order_in (asked i other)) (listed_beside p m.listed s.cells unqueued beside h.agrees.services.listed)
       where
         each : Alike gone after
-        each = each_unslotted_alike xs gone
+        each = each_slot_released_alike xs gone
 
         asked : (i : ℕ) → (n == i) ≡ false → requested after i ≡ requested unqueued i
-        asked i other = each_unslotted_requests xs gone i ∙ requested_without unqueued g o i tidy there other
+        asked i other = each_slot_released_requests xs gone i ∙ requested_without unqueued g o i no_duplicates there other
 
     messages_so : SameMessages p store after
-    messages_so = messages_unslotted p store xs gone (messages_without p store unqueued g o tidy there lives_there object small
+    messages_so = messages_slot_released p store xs gone (messages_without p store unqueued g o no_duplicates there lives_there object small
         (messages_unqueued p h.typing h.wired s h.typed h.kept.fit k same n m.messages store
         (λ j e. drops.gone j (sym (is_there (kept.queue_at k n) j) ∙ e)) (λ j e. drops.others j (sym (is_there (kept.queue_at k n) j) ∙ e))
         drops.limit (ap (λ i. count_kept store + i) (many_there (kept.queue_at k n)) ∙ drops.count)
         h.agrees.services.messages))
 
     tokens_so : SameTokens p m.tokens after
-    tokens_so = tokens_unslotted p m.tokens xs gone
-        (tokens_without p m.tokens unqueued g o tidy there small (ap awaited (beside.requests o.name) ∙ going_untold) (tokens_beside p m.tokens s.cells unqueued
-        beside (told_unqueued p h.typing h.wired s h.typed h.kept.fit k same m.messages h.agrees.services.messages n) h.agrees.services.tokens))
+    tokens_so = tokens_slot_released p m.tokens xs gone
+        (tokens_without p m.tokens unqueued g o no_duplicates there small (ap awaited (beside.requests o.name) ∙ going_unreported) (tokens_beside p m.tokens s.cells unqueued
+        beside (reported_unqueued p h.typing h.wired s h.typed h.kept.fit k same m.messages h.agrees.services.messages n) h.agrees.services.tokens))
 
     pub goes_away : Agrees p (places.next
-        (record (with_tasks ms m) { cells = heap; active = a; sessions = w; clients = k'; messages = store; listed = unlisted n m.listed })) (vanished o ts s)
+        (record (with_tasks ms m) { cells = heap; active = a; sessions = w; clients = k'; messages = store; listed = unlisted n m.listed })) (reclaimed o ts s)
     goes_away = record {
       tasks = same_resumed ms ts top.below;
-      values = shows_again p h.typing (vanished o ts s) (others m) k' (going_on ms) heap m.entries.items
+      values = shows_again p h.typing (reclaimed o ts s) (others m) k' (going_on ms) heap m.entries.items
           (without g s.cells) (resumed ts) typed fits.fit clients_gone sessions_stay (λ r aside. held_after r (in_no_queue r aside)) shows_before;
-      cells = cells_unslotted p heap xs gone
-          (cells_without p m.cells heap unqueued g o (cells_beside p m.cells s.cells unqueued beside h.agrees.cells) tidy there object cleared less);
+      cells = cells_slot_released p heap xs gone
+          (cells_without p m.cells heap unqueued g o (cells_beside p m.cells s.cells unqueued beside h.agrees.cells) no_duplicates there object cleared less);
       entries = h.agrees.entries;
-      requests = requests_unslotted p a xs gone
-          (requests_gone p m.active a unqueued g o tidy there off (requests_beside p m.active s.cells unqueued beside queue_stays h.agrees.requests));
-      natives = natives_unslotted p w s.killed xs gone (natives_gone p m.sessions w s.killed unqueued g o tidy there shut
+      requests = requests_slot_released p a xs gone
+          (requests_gone p m.active a unqueued g o no_duplicates there off (requests_beside p m.active s.cells unqueued beside queue_stays h.agrees.requests));
+      natives = natives_slot_released p w s.killed xs gone (natives_gone p m.sessions w s.killed unqueued g o no_duplicates there shut
           (natives_beside p m.sessions s.killed s.cells unqueued h.formed.header.cells beside h.agrees.natives));
       services = record {
         clients = clients_gone;
@@ -381,43 +381,43 @@ module _ (p : Image) (m : Parts) (h : In_going p m)
     }
 
     -- with its lines
-    pub told_away : (class : ℕ) (told : LineBuffer) → o.thing ≡ An_object_of class →
-        record told { lines = (told.lines ++ gone_lines k (kept.queue_at k n)) ++ Gone class ∷ [] }
-        ≡ record told { lines = told.lines ++ (queue_lines s.cells (Some o) ++ goes_line (Some o)) }
-    told_away class told is =
-        let queue = queue_told k s.cells s.clients same o (messages_wait p h.typing h.wired s h.typed s.clients h.kept.fit k same n)
+    pub reported_away : (class : ℕ) (reported : LineBuffer) → o.thing ≡ An_object_of class →
+        record reported { lines = (reported.lines ++ gone_lines k (kept.queue_at k n)) ++ Gone class ∷ [] }
+        ≡ record reported { lines = reported.lines ++ (queue_lines s.cells (Some o) ++ goes_line (Some o)) }
+    reported_away class reported is =
+        let queue = queue_reported k s.cells s.clients same o (messages_wait p h.typing h.wired s h.typed s.clients h.kept.fit k same n)
         ∙ lines_alike k (kept.queue_at k n) in
-        ap (λ ls. record told { lines = ls }) (append_assoc told.lines (gone_lines k (kept.queue_at k n)) (Gone class ∷ []) ∙ ap (λ ls. told.lines
-        ++ (ls ++ Gone class ∷ [])) (sym queue) ∙ ap (λ ls. told.lines ++ (queue_lines s.cells (Some o) ++ ls)) (sym (line_of o class is)))
+        ap (λ ls. record reported { lines = ls }) (append_assoc reported.lines (gone_lines k (kept.queue_at k n)) (Gone class ∷ []) ∙ ap (λ ls. reported.lines
+        ++ (ls ++ Gone class ∷ [])) (sym queue) ∙ ap (λ ls. reported.lines ++ (queue_lines s.cells (Some o) ++ ls)) (sym (line_of o class is)))
 
-pub go_does : (m : Parts) (heap : Heap) (a : Active) (w : Standing) (store : Store) (n class : ℕ) (told : LineBuffer) →
+pub go_does : (m : Parts) (heap : Heap) (a : Active) (w : Standing) (store : Store) (n class : ℕ) (reported : LineBuffer) →
     n ≡ going_here m.stack.tasks → class_at m.cells n ≡ Some class → Changes m.cells heap n None → count heap + 1 ≡ count m.cells → Delists m.active a n →
     Sets m.sessions w n false → Drops (kept.queue_at m.clients n) m.messages store → GoesAway m (places.next (record (with_tasks (below_first m.stack.tasks) m)
-    { cells = heap; active = a; sessions = w; clients = kept.server_gone n m.clients; messages = store; listed = unlisted n m.listed })) told
-    (record told { lines = (told.lines ++ gone_lines m.clients (kept.queue_at m.clients n)) ++ Gone class ∷ [] })
-go_does m heap a w store n class told which is gone less off shut drops p h o holds free typed fits =
+    { cells = heap; active = a; sessions = w; clients = kept.server_gone n m.clients; messages = store; listed = unlisted n m.listed })) reported
+    (record reported { lines = (reported.lines ++ gone_lines m.clients (kept.queue_at m.clients n)) ++ Gone class ∷ [] })
+go_does m heap a w store n class reported which is gone less off shut drops p h o holds free typed fits =
     by_going p m h (λ us. n ≡ going_here us → Agrees p (places.next (record (with_tasks (below_first us) m)
-    { cells = heap; active = a; sessions = w; clients = kept.server_gone n m.clients; messages = store; listed = unlisted n m.listed })) (vanished o h.below
-    h.state) × (record told { lines = (told.lines ++ gone_lines m.clients (kept.queue_at m.clients n)) ++ Gone class ∷ [] } ≡ record told {
-      lines = told.lines ++ (queue_lines h.state.cells (Some o) ++ goes_line (Some o));
+    { cells = heap; active = a; sessions = w; clients = kept.server_gone n m.clients; messages = store; listed = unlisted n m.listed })) (reclaimed o h.below
+    h.state) × (record reported { lines = (reported.lines ++ gone_lines m.clients (kept.queue_at m.clients n)) ++ Gone class ∷ [] } ≡ record reported {
+      lines = reported.lines ++ (queue_lines h.state.cells (Some o) ++ goes_line (Some o));
     })) (λ x ms top which. let name : n ≡ o.name = which ∙ number_of p m h o x ms top holds in
     let gone = subst (λ k. Changes m.cells heap k None) name gone in
     let off = subst (λ k. Delists m.active a k) name off in
     let shut = subst (λ k. Sets m.sessions w k false) name shut in
     let drops = subst (λ k. Drops (kept.queue_at m.clients k) m.messages store) name drops in
-    let thing = thing_of_it p m h o n class is name (held_lives h.state.cells _ o h.typed.good.tidy holds) (going_object p m h o x ms top holds) in
+    let thing = thing_of_it p m h o n class is name (held_lives h.state.cells _ o h.typed.good.no_duplicates holds) (going_object p m h o x ms top holds) in
     subst (λ i. Agrees p (places.next (record
     (with_tasks ms m) { cells = heap; active = a; sessions = w; clients = kept.server_gone i m.clients; messages = store; listed = unlisted i m.listed }))
-    (vanished o h.below h.state)
-    × (record told { lines = (told.lines ++ gone_lines m.clients (kept.queue_at m.clients i)) ++ Gone class ∷ [] } ≡ record told
-    { lines = told.lines ++ (queue_lines h.state.cells (Some o) ++ goes_line (Some o)) })) (sym name) (
+    (reclaimed o h.below h.state)
+    × (record reported { lines = (reported.lines ++ gone_lines m.clients (kept.queue_at m.clients i)) ++ Gone class ∷ [] } ≡ record reported
+    { lines = reported.lines ++ (queue_lines h.state.cells (Some o) ++ goes_line (Some o)) })) (sym name) (
       goes_away p m h o holds free heap a w store gone less off shut drops typed fits x ms top,
-      told_away p m h o holds free heap a w store gone less off shut drops typed fits x ms top class told thing,
+      reported_away p m h o holds free heap a w store gone less off shut drops typed fits x ms top class reported thing,
     )) which
 
 -- what waits at a cell is kept, each once, so it can go
-pub can_vanish : (p : Image) (m : Parts) → Stands (record { image = p; parts = m }) → (n : ℕ) → Lives m.cells n → CanVanish n m
-can_vanish p m st n lives =
+pub can_reclaim : (p : Image) (m : Parts) → Stands (record { image = p; parts = m }) → (n : ℕ) → Lives m.cells n → CanReclaim n m
+can_reclaim p m st n lives =
     let s = st.0 in
     let fit = st.1.kept.fit in
     let same = st.1.agrees.services.clients in
@@ -435,6 +435,6 @@ gone_counted s (Close c ∷ es) = gone_counted s es
 gone_counted s (_ ∷ es) = ap suc (gone_counted s es)
 
 -- so there is room for the cell's line
-pub room_left : (told : LineBuffer) (s : kept.State) (es : List QueueEntry) → (length told.lines + answers es) < told.room →
-    length (told.lines ++ gone_lines s es) < told.room
-room_left told s es room = let many = length-append told.lines (gone_lines s es) in let counted = gone_counted s es in omega (arith, room, many, counted)
+pub room_left : (reported : LineBuffer) (s : kept.State) (es : List QueueEntry) → (length reported.lines + answers es) < reported.room →
+    length (reported.lines ++ gone_lines s es) < reported.room
+room_left reported s es room = let many = length-append reported.lines (gone_lines s es) in let counted = gone_counted s es in omega (arith, room, many, counted)

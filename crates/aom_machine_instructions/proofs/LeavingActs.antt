@@ -15,15 +15,15 @@ use Rattle.aom_semantics.specs.Places.{Place, Register, Cell, held}
 use Rattle.aom_semantics.specs.Effects.{Leaves, Same, applied, updates}
 use Rattle.aom_semantics.specs.State.{Closing, Task, Run, Trapped, Destroy, Unwind, Dispatched, State, word, Frame}
 use Rattle.aom_semantics.specs.Words.{read}
-use Rattle.aom_frames.specs.Tasks.{Runs, register_here, to_trap as held_to_trap}
+use Rattle.aom_frames.specs.Tasks.{TopFrameIs, register_here, to_trap as held_to_trap}
 use Rattle.aom_frames.specs.declared.task.Task.{Task as Machine_task}
 use Rattle.aom_frames.specs.declared.task.Task.TheVariants.{Run as Runs_frame, Trapped as Is_trap, Destroy as Destroys, Closing as Closes, Unwind as Unwinds, Dispatched as Ends}
 use Rattle.aom_machine_state.specs.declared.parts.Parts.{Parts}
-use Rattle.aom_machine_instructions.specs.Acts.{At_hand, leaving, Does}
+use Rattle.aom_machine_instructions.specs.Acts.{CurrentFrame, leaving, Does}
 use Rattle.aom_machine_state.specs.Places as places
 use Rattle.aom_machine_state.specs.Places.{others, Others, value_in, register_in, going_in}
 use Rattle.aom_machine_state.specs.Agrees.{word_at, Represents, SameTasks, Agrees}
-use Rattle.aom_machine_instructions.proofs.MachineStateLemmas.{A_method, Tops, at_depth, going_past, method_on_top, register_past, same_length, tops, unowned}
+use Rattle.aom_machine_instructions.proofs.MachineStateLemmas.{A_method, TopMatches, at_depth, going_past, method_on_top, register_past, same_length, top_matches, unowned}
 use Rattle.aom_machine_instructions.proofs.MachineStateLemmas.{word_past}
 use Rattle.aom_machine_instructions.proofs.ReturnActs.{beneath, cleared_none}
 use Rattle.aom_machine_instructions.proofs.Running.{retasked}
@@ -43,14 +43,14 @@ none_owned [] d i e = refl
 none_owned (c ∷ cs) d i e = grind (arith, nat_tests, unowned c cs (Register d i), eq-eqb d d, none_owned cs d i)
 
 -- a leave is one task in the place of some
-pub to_trap_shorter : (us : List Machine_task) → Runs us → length (held_to_trap us) < length us
-to_trap_shorter us runs = go (tops A_method us runs)
+pub to_trap_shorter : (us : List Machine_task) → TopFrameIs us → length (held_to_trap us) < length us
+to_trap_shorter us runs = go (top_matches A_method us runs)
   where
     no_longer : (us : List Machine_task) → length (held_to_trap us) ≤ length us
     no_longer (Runs_frame f ∷ us) = let few = no_longer us in omega arith
     no_longer _ = omega arith
 
-    go : {us : List Machine_task} → Tops A_method us → length (held_to_trap us) < length us
+    go : {us : List Machine_task} → TopMatches A_method us → length (held_to_trap us) < length us
     go (method_on_top f us) = let few = no_longer us in omega arith
 
 -- the tasks that stay, and what they hold
@@ -91,7 +91,7 @@ leaves_at p m s fr ts code top agrees free = subst (λ us. Agrees p (leaving cod
 
 module _ (m : Parts) (refused : List ℕ) where
   -- with a register's word
-  left_with : (p : Image) (h : At_hand p m) (a : ℕ) → is_some (word h.frame a) ≡ true → above_trap_is_free h.state.cells (Run h.frame ∷ h.below) ≡ true →
+  left_with : (p : Image) (h : CurrentFrame p m) (a : ℕ) → is_some (word h.frame a) ≡ true → above_trap_is_free h.state.cells (Run h.frame ∷ h.below) ≡ true →
       Agrees p (leaving (cast_signed w32 (register_here m.stack.tasks a)) m) (applied p h.frame h.below h.state (Leaves (read h.frame h.below h.state a) Same))
   left_with p h a some free = subst (λ w. Agrees p (leaving (cast_signed w32 (register_here m.stack.tasks a)) m) (applied p h.frame h.below h.state
       (Leaves w Same))) (word_read p m h a some) (leaves_at p m h.state h.frame h.below (cast_signed w32 (register_here m.stack.tasks a)) h.top h.agrees free)

@@ -16,7 +16,7 @@ mod ReturnActs
 mod GoneActs
 mod GoingActs
 mod Stepping
-mod Housing
+mod ReceiverHolding
 mod RoomActs
 mod RoomMoves
 mod Counts
@@ -25,7 +25,7 @@ mod Ends
 mod StageEnds
 mod Finding
 mod Firsts
-mod LetGo
+mod ClosingSessions
 mod EnterActs
 mod Traps
 mod LeavingActs
@@ -36,19 +36,19 @@ mod Topping
 mod Resulting
 mod Standing
 mod UnwindActs
-mod Vanishing
+mod Reclaiming
 mod MessageActs
 mod TokenActs
 pub mod MachineInstructionsLemmas
-pub use Rattle.aom_active.proofs.ActiveLemmas
-pub use Rattle.aom_classes.proofs.ClassesLemmas
-pub use Rattle.aom_families.proofs.FamiliesLemmas
+pub use Rattle.aom_active_objects.proofs.ActiveObjectsLemmas
+pub use Rattle.aom_link_conditions.proofs.LinkConditionsLemmas
+pub use Rattle.aom_inheritance.proofs.InheritanceLemmas
 pub use Rattle.aom_image.proofs.ImageLemmas
 pub use Rattle.aom_instructions.proofs.InstructionsLemmas
 pub use Rattle.aom_machine_state.proofs.MachineStateLemmas
-pub use Rattle.aom_progress.proofs.ProgressLemmas
+pub use Rattle.aom_termination.proofs.TerminationLemmas
 pub use Rattle.aom_roles.proofs.RolesLemmas
 pub use Rattle.aom_safety.proofs.SafetyLemmas
 pub use Rattle.aom_semantics.proofs.SemanticsLemmas
-pub use Rattle.aom_shape.proofs.ShapeLemmas
-pub use Rattle.aom_typings.proofs.TypingsLemmas
+pub use Rattle.aom_abstract_state.proofs.AbstractStateLemmas
+pub use Rattle.aom_static_bounds.proofs.StaticBoundsLemmas

@@ -12,8 +12,8 @@ use Rattle.aom_instructions.specs.Table.{transfer_of}
 use Rattle.aom_instructions.specs.declared.instr.Instr.{Instr}
 use Rattle.aom_instructions.specs.declared.transfer.Transfer.TheVariants as transfer
 use Rattle.aom_roles.specs.Families.{parent_above}
-use Rattle.aom_active.specs.Agrees.{Active}
-use Rattle.aom_machine_instructions.proofs.FamiliesLemmas.{families_inherit}
+use Rattle.aom_active_objects.specs.Agrees.{Active}
+use Rattle.aom_machine_instructions.proofs.InheritanceLemmas.{families_inherit}
 use Rattle.aom_frames.specs.Tasks.{below_first, method_here}
 use Rattle.aom_frames.specs.declared.frame.Frame.{Frame as Machine_frame}
 use Rattle.aom_frames.specs.declared.task.Task.{Task as Machine_task}
@@ -26,11 +26,11 @@ use Rattle.aom_semantics.specs.Requests.{ended_cells}
 use Rattle.aom_semantics.specs.Places.{Going, Object, Place, Register, held}
 use Rattle.aom_semantics.specs.State.{Destroy, Inside, Run, State, Task}
 use Rattle.aom_safety.specs.WellTyped.{Good}
-use Rattle.aom_machine_instructions.proofs.MachineStateLemmas.{A_going, Alike, Tops, alike, both_go, going_on_top, tops}
+use Rattle.aom_machine_instructions.proofs.MachineStateLemmas.{A_going, Alike, TopMatches, alike, both_go, going_on_top, top_matches}
 use Rattle.aom_machine_state.specs.Agrees.{Agrees, SameTasks, Represents, number, word_at}
 use Rattle.aom_machine_state.specs.Places.{IsDestroying, going_here, going_in, others, value_in, with_tasks}
 use Rattle.aom_machine_state.specs.declared.parts.Parts.{Parts}
-use Rattle.aom_machine_instructions.specs.Acts.{At_hand, DoesIn}
+use Rattle.aom_machine_instructions.specs.Acts.{CurrentFrame, DoesIn}
 use Rattle.aom_machine_instructions.specs.Going.{destructed}
 use Rattle.aom_machine_instructions.specs.Requests.{IsOver}
 use Rattle.aom_machine_instructions.proofs.CancelEnds.{ended_agrees}
@@ -55,24 +55,24 @@ module _ (p : Image) (m : Parts) (refused : List ℕ) (i : Instr) (a : ℕ) (is_
   abbrev mid : Parts
   mid = record m { active = act }
 
-  abbrev past : At_hand p m → State
+  abbrev past : CurrentFrame p m → State
   past h = record h.state { cells = ended_cells p h.frame h.state.cells }
 
-  abbrev after : (h : At_hand p m) → List Task → State
+  abbrev after : (h : CurrentFrame p m) → List Task → State
   after h ts = returned p h.frame ts (past h) (gives_of p h.frame.method) a ts
 
-  still : (h : At_hand p m) (q : Place) → held (past h).cells q ≡ held h.state.cells q
+  still : (h : CurrentFrame p m) (q : Place) → held (past h).cells q ≡ held h.state.cells q
   still h q = (ended_alike p h.frame h.state.cells).held_so q
 
   -- over a cell that goes stands a destructor of its line, which works on it and gives nothing
-  line_here : (h : At_hand p m) (ts : List Task) → h.state.tasks ≡ Run h.frame ∷ Destroy ∷ ts →
-      (o : Object) × (held h.state.cells (Going (length ts)) ≡ Some o) × (h.frame.home ≡ Inside o (Going (length ts))) × (gives_of p h.frame.method ≡ Nothing)
+  line_here : (h : CurrentFrame p m) (ts : List Task) → h.state.tasks ≡ Run h.frame ∷ Destroy ∷ ts →
+      (o : Object) × (held h.state.cells (Going (length ts)) ≡ Some o) × (h.frame.receiver ≡ Inside o (Going (length ts))) × (gives_of p h.frame.method ≡ Nothing)
   line_here h ts at = method_layer (λ ls. Good p h.typing h.state.cells ls) h.frame (Destroy ∷ ts) h.typed.layers (sym h.typed.tasks ∙ at) h.typed.good
       (λ sh ls under good. going_layer (λ ls. Good p h.typing h.state.cells (Method h.frame sh ∷ ls)) ts ls under good (λ o below rest good.
       let d = good.stack.4 in
-      (o, subst (λ us. held h.state.cells (Going (length us)) ≡ Some o) rest d.0.1, subst (λ us. h.frame.home ≡ Inside o (Going (length us))) rest d.1.1, d.1.3)))
+      (o, subst (λ us. held h.state.cells (Going (length us)) ≡ Some o) rest d.0.1, subst (λ us. h.frame.receiver ≡ Inside o (Going (length us))) rest d.1.1, d.1.3)))
 
-  goes_up : (h : At_hand p m) (f : Machine_frame) (x : ℕ) (us : List Machine_task) (ts : List Task) → x < 4096 → SameTasks us ts → h.state.tasks ≡ Run
+  goes_up : (h : CurrentFrame p m) (f : Machine_frame) (x : ℕ) (us : List Machine_task) (ts : List Task) → x < 4096 → SameTasks us ts → h.state.tasks ≡ Run
       h.frame ∷ Destroy ∷ ts → Top mid (past h) h.frame (Destroy ∷ ts) f (Destroys x ∷ us) → none_owns_but h.state.cells (length (Destroy ∷ ts)) (result_source
       (gives_of p h.frame.method) a) ≡ true → Agrees p (with_tasks (destructed p (next_destructor p f.method) x (Destroys x ∷ us)) mid) (after h (Destroy ∷ ts))
   goes_up h f x us ts small same at top free =
@@ -87,8 +87,8 @@ module _ (p : Image) (m : Parts) (refused : List ℕ) (i : Instr) (a : ℕ) (is_
       let pushed = destructs p mid (past h) us ts x (next_destructor p h.frame.method) line.0 h.frame.height
       (λ k e. next_class p k h.frame.method e) name small same (aside_of p mid (past h) agree) waits.values in
       subst (λ k. Agrees p (with_tasks (destructed p (next_destructor p k) x (Destroys x ∷ us)) mid) (after h (Destroy ∷ ts))) (sym top.frame.method)
-      (subst (λ home. Agrees p (with_tasks (destructed p (next_destructor p h.frame.method) x (Destroys x ∷ us)) mid)
-      (record (past h) { tasks = line_on p h.frame.method home h.frame.height ts })) (sym line.2) pushed)
+      (subst (λ receiver. Agrees p (with_tasks (destructed p (next_destructor p h.frame.method) x (Destroys x ∷ us)) mid)
+      (record (past h) { tasks = line_on p h.frame.method receiver h.frame.height ts })) (sym line.2) pushed)
 
   abbrev pub goes : List Machine_task → Parts
   goes us = with_tasks (destructed p (next_destructor p (method_here us)) (going_here (below_first us)) (below_first us)) mid
@@ -97,9 +97,9 @@ module _ (p : Image) (m : Parts) (refused : List ℕ) (i : Instr) (a : ℕ) (is_
   return_to_going going = return_does p m (goes m.stack.tasks) refused i a is_return (λ h needs typed.
       let met = all_parts (result_needs p h.frame h.below h.state (gives_of p h.frame.method) a) _ needs in
       by_top p m h (λ us. IsDestroying (below_first us) → Agrees p (goes us) (after h h.below))
-      (λ f ms top has. go h f ms h.below h.top (top_over h h.below f ms top) (tops A_going ms has) (alike ms h.below top.below) met.1.1.0) going)
+      (λ f ms top has. go h f ms h.below h.top (top_over h h.below f ms top) (top_matches A_going ms has) (alike ms h.below top.below) met.1.1.0) going)
     where
-      top_over : (h : At_hand p m) (ts : List Task) (f : Machine_frame) (ms : List Machine_task) → Top m h.state h.frame ts f ms → Top mid (past h) h.frame ts f ms
+      top_over : (h : CurrentFrame p m) (ts : List Task) (f : Machine_frame) (ms : List Machine_task) → Top m h.state h.frame ts f ms → Top mid (past h) h.frame ts f ms
       top_over h ts f ms top = record {
         frame = top.frame;
         below = top.below;
@@ -108,7 +108,7 @@ module _ (p : Image) (m : Parts) (refused : List ℕ) (i : Instr) (a : ℕ) (is_
             (sym (still h r)) (top.values r);
       }
 
-      go : (h : At_hand p m) (f : Machine_frame) (ms : List Machine_task) (ts : List Task) →
-          h.state.tasks ≡ Run h.frame ∷ ts → Top mid (past h) h.frame ts f ms → Tops A_going ms → Alike ms ts →
+      go : (h : CurrentFrame p m) (f : Machine_frame) (ms : List Machine_task) (ts : List Task) →
+          h.state.tasks ≡ Run h.frame ∷ ts → Top mid (past h) h.frame ts f ms → TopMatches A_going ms → Alike ms ts →
           none_owns_but h.state.cells (length ts) (result_source (gives_of p h.frame.method) a) ≡ true → Agrees p (goes (Runs_frame f ∷ ms)) (after h ts)
       go h f _ _ at top (going_on_top x us) (both_go _ _ ts small same _) free = goes_up h f x us ts small same at top free

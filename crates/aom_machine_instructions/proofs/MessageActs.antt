@@ -19,7 +19,7 @@ use Rattle.aom_instructions.specs.declared.instr.Instr.TheVariants.{TakeMessage}
 use Rattle.aom_roles.specs.Tests.{AllTrue}
 use Rattle.aom_machine_state.specs.LineBuffer.{LineBuffer}
 use Rattle.aom_cells.specs.Store.{Changes, Store, count, first_number}
-use Rattle.aom_roles.specs.Tables.{put_at}
+use Rattle.aom_roles.specs.Tables.{set_extending}
 use Rattle.aom_machine_instructions.proofs.SemanticsLemmas.{held_moved, held_without}
 use Rattle.aom_machine_instructions.proofs.SafetyLemmas.{has_sender, stands_message}
 use Rattle.aom_semantics.specs.Calls.{needs_reply}
@@ -35,10 +35,10 @@ use Rattle.aom_machine_state.specs.Places as places
 use Rattle.aom_machine_state.specs.Places.{Others, others, set_register, value_in}
 use Rattle.aom_machine_state.specs.Agrees.{Agrees, number}
 use Rattle.aom_machine_state.specs.Serving.{message_name}
-use Rattle.aom_machine_instructions.proofs.MachineStateLemmas.{cells_completed, cells_moved, completed_lines, message_sent, message_told, moves}
+use Rattle.aom_machine_instructions.proofs.MachineStateLemmas.{cells_completed, cells_moved, completed_lines, message_sent, message_reported, moves}
 use Rattle.aom_machine_instructions.proofs.MachineStateLemmas.{natives_completed, natives_moved, requests_completed, requests_moved, served_written}
 use Rattle.aom_machine_instructions.proofs.MachineStateLemmas.{services_completed, services_moved, value_written, was_taken, word_written}
-use Rattle.aom_machine_instructions.specs.Acts.{At_hand, Does}
+use Rattle.aom_machine_instructions.specs.Acts.{CurrentFrame, Does}
 use Rattle.aom_machine_instructions.specs.Serving.{Completes, completion_lines}
 use Rattle.aom_machine_instructions.proofs.GoingOn.{framed, goes_on_with, written}
 use Rattle.aom_machine_instructions.proofs.ObjectActs.{shown_here}
@@ -59,7 +59,7 @@ module _ (m : Parts) (refused : List ℕ) where
       let mid = record m { served = null } in
       let from = Elsewhere In_service in
       let to = Register (length ts) a in
-      goes_on_with p m h mid (moved from to s.cells) s.items s.rest (put_at None h.frame.words a None) (on_top (with_register a m.served))
+      goes_on_with p m h mid (moved from to s.cells) s.items s.rest (set_extending None h.frame.words a None) (on_top (with_register a m.served))
       (with_register a m.served) (λ f ms. refl) (record {
         stack = refl;
         cells = cells_moved p m.cells s.cells from to h.agrees.cells;
@@ -82,13 +82,13 @@ module _ (m : Parts) (refused : List ℕ) where
 -- ---- a message is completed
 
 -- what is in the register is a message, with the number that the register shows
-pub record InRegister (p : Image) (m : Parts) (h : At_hand p m) (a : ℕ) : Type 0 where
+pub record InRegister (p : Image) (m : Parts) (h : CurrentFrame p m) (a : ℕ) : Type 0 where
   pub object : Object
   pub there : held h.state.cells (Register (length h.below) a) ≡ Some object
   pub message : object.thing ≡ Message
   pub number : object.name ≡ register_here m.stack.tasks a
 
-pub in_register : (p : Image) (m : Parts) (h : At_hand p m) (a b : ℕ) → AllTrue (needs_reply p h.frame h.below h.state a b) → InRegister p m h a
+pub in_register : (p : Image) (m : Parts) (h : CurrentFrame p m) (a b : ℕ) → AllTrue (needs_reply p h.frame h.below h.state a b) → InRegister p m h a
 in_register p m h a b met = go (held h.state.cells (Register (length h.below) a)) refl met.1.0 met.1.1.0
   where
     go : (x : Option Object) → held h.state.cells (Register (length h.below) a) ≡ x → is_some (held h.state.cells (Register (length h.below) a)) ≡ true →
@@ -102,26 +102,26 @@ in_register p m h a b met = go (held h.state.cells (Register (length h.below) a)
     }
 
 -- the state once it is replied to, where it is a token of that order
-abbrev pub replied : (p : Image) {m : Parts} (h : At_hand p m) → ℕ → ℕ → Option ℕ → State
+abbrev pub replied : (p : Image) {m : Parts} (h : CurrentFrame p m) → ℕ → ℕ → Option ℕ → State
 replied p h a b order =
     let code = read h.frame h.below h.state b in
     record h.state { cells = without (Register (length h.below) a) (redeemed_by order code h.state.cells); tasks = Run (next (set_word h.frame a None)) ∷ h.below }
 
 -- where no token is at its place it is none
-module _ (p : Image) (m : Parts) (h : At_hand p m) (a : ℕ) (x : InRegister p m h a) (place : ℕ) (name : x.object.name ≡ message_name place)
+module _ (p : Image) (m : Parts) (h : CurrentFrame p m) (a : ℕ) (x : InRegister p m h a) (place : ℕ) (name : x.object.name ≡ message_name place)
     (sent : class_at m.tokens place ≡ None) where
   no_token_there : (service_of h.state.cells x.object.name).token ≡ None
   no_token_there = grind (arith, nat_tests)
 
   -- so no request waits for it, and it has a sender
-  nothing_told : token_of h.state.cells (held h.state.cells (Register (length h.below) a)) ≡ None
-  nothing_told = ap (token_of h.state.cells) x.there ∙ ap order_in no_token_there
+  nothing_reported : token_of h.state.cells (held h.state.cells (Register (length h.below) a)) ≡ None
+  nothing_reported = ap (token_of h.state.cells) x.there ∙ ap order_in no_token_there
 
   pub it_was_sent : has_sender h.state.cells x.object.name ≡ true
   it_was_sent = message_sent p h.typing h.state h.typed (Register (length h.below) a) x.object x.there x.message h.kept.fit.sources no_token_there
 
 -- where a register's message is replied to
-module _ (p : Image) (m : Parts) (h : At_hand p m) (a b : ℕ) (met : AllTrue (needs_reply p h.frame h.below h.state a b)) where
+module _ (p : Image) (m : Parts) (h : CurrentFrame p m) (a b : ℕ) (met : AllTrue (needs_reply p h.frame h.below h.state a b)) where
   abbrev g : Place
   g = Register (length h.below) a
 
@@ -140,8 +140,8 @@ module _ (p : Image) (m : Parts) (h : At_hand p m) (a b : ℕ) (met : AllTrue (n
         let s = h.state in
         let mid = record m { clients = after_complete place m.clients; messages = store } in
         subst (λ order. Agrees p (places.next (record (set_register a null m) { clients = after_complete place m.clients; messages = store }))
-        (replied p h a b order)) (sym (nothing_told p m h a it place name sent)) (goes_on_with p m h mid (without g s.cells) s.items s.rest
-        (put_at None h.frame.words a None) (on_top (with_register a null)) (with_register a null) (λ f ms. refl) (record {
+        (replied p h a b order)) (sym (nothing_reported p m h a it place name sent)) (goes_on_with p m h mid (without g s.cells) s.items s.rest
+        (set_extending None h.frame.words a None) (on_top (with_register a null)) (with_register a null) (λ f ms. refl) (record {
           stack = refl;
           cells = cells_completed p h.typing s h.typed g it.object it.there it.message place name m.cells h.agrees.cells;
           entries = h.agrees.entries;
@@ -161,7 +161,7 @@ module _ (p : Image) (m : Parts) (h : At_hand p m) (a b : ℕ) (met : AllTrue (n
     complete_lines code is =
         let s = h.state in
         let taken = was_taken p h.typing s h.typed g it.object it.there it.message place name h.wired h.kept refl m.clients h.agrees.services.clients in
-        lines_so (completion (place_at m.clients place)) code ∙ sym (message_told m.clients s.cells s.clients h.agrees.services.clients it.object place code
+        lines_so (completion (place_at m.clients place)) code ∙ sym (message_reported m.clients s.cells s.clients h.agrees.services.clients it.object place code
         name taken) ∙ ap (λ o. message_line s.cells o code) (sym it.there) ∙ ap (message_line s.cells (held s.cells g)) (is ∙ word_read p m h b met.1.1.1.0)
       where
         lines_so : (x : Option Completion) (code : ℤ) → completion_lines x code ≡ completed_lines code x
@@ -169,18 +169,18 @@ module _ (p : Image) (m : Parts) (h : At_hand p m) (a b : ℕ) (met : AllTrue (n
         lines_so (Some x) code = refl
 
 -- as the code does it: the register is null, the message is completed, and the method goes on
-module _ (m mid new : Parts) (told now : LineBuffer) (n : ℕ) (code : ℤ)
-    (a b : ℕ) (emptied : mid ≡ set_register a null m) (number_so : n ≡ register_here m.stack.tasks a) (completes : Completes n code mid new told now) where
+module _ (m mid new : Parts) (reported now : LineBuffer) (n : ℕ) (code : ℤ)
+    (a b : ℕ) (emptied : mid ≡ set_register a null m) (number_so : n ≡ register_here m.stack.tasks a) (completes : Completes n code mid new reported now) where
   pub completed_agrees : (last : Parts) → class_at mid.tokens completes.place ≡ None → a < 16 → last ≡ places.next new →
-      (p : Image) (h : At_hand p m) → AllTrue (needs_reply p h.frame h.below h.state a b) →
+      (p : Image) (h : CurrentFrame p m) → AllTrue (needs_reply p h.frame h.below h.state a b) →
       Agrees p last (replied p h a b (token_of h.state.cells (held h.state.cells (Register (length h.below) a))))
   completed_agrees last sent small goes_on p h met =
       grind (arith, nat_tests, complete_agrees p m h a b met completes.place (completes.number ∙ number_so) new.messages small)
 
-  pub completed_told : code ≡ cast_signed w32 (register_here m.stack.tasks b) → (p : Image) (h : At_hand p m) →
-      AllTrue (needs_reply p h.frame h.below h.state a b) → now ≡ record told {
-        lines = told.lines ++ message_line h.state.cells (held h.state.cells (Register (length h.below) a)) (read h.frame h.below h.state b);
+  pub completed_reported : code ≡ cast_signed w32 (register_here m.stack.tasks b) → (p : Image) (h : CurrentFrame p m) →
+      AllTrue (needs_reply p h.frame h.below h.state a b) → now ≡ record reported {
+        lines = reported.lines ++ message_line h.state.cells (held h.state.cells (Register (length h.below) a)) (read h.frame h.below h.state b);
       }
-  completed_told is p h met = completes.line ∙ ap (λ (x : Parts). record told {
-    lines = told.lines ++ completion_lines (completion (place_at x.clients completes.place)) code;
-  }) emptied ∙ ap (λ ls. record told { lines = told.lines ++ ls }) (complete_lines p m h a b met completes.place (completes.number ∙ number_so) code is)
+  completed_reported is p h met = completes.line ∙ ap (λ (x : Parts). record reported {
+    lines = reported.lines ++ completion_lines (completion (place_at x.clients completes.place)) code;
+  }) emptied ∙ ap (λ ls. record reported { lines = reported.lines ++ ls }) (complete_lines p m h a b met completes.place (completes.number ∙ number_so) code is)

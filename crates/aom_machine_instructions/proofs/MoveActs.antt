@@ -16,7 +16,7 @@ use Rattle.aom_machine_state.specs.Places as places
 use Rattle.aom_machine_instructions.proofs.Running.{word_here, free, no_word, reframed}
 use Rattle.aom_machine_instructions.proofs.WordActs.{plain_does}
 use Rattle.aom_machine_instructions.proofs.GoingOn.{goes_on_with}
-use Rattle.aom_roles.specs.Tables.{put_at}
+use Rattle.aom_roles.specs.Tables.{set_extending}
 
 module _ (m : Parts) (refused : List ℕ) where
   pub move_does : (a b : ℕ) → a < 16 → b < 16 → Does refused (Move a b) m (places.next (set_register a (register_here m.stack.tasks b) (set_register b null m)))
@@ -27,7 +27,7 @@ module _ (m : Parts) (refused : List ℕ) where
       let x = register_here m.stack.tasks b in
       let from = Register (length ts) b in
       let to = Register (length ts) a in
-      goes_on_with p m h m (moved from to s.cells) s.items s.rest (put_at None h.frame.words a None)
+      goes_on_with p m h m (moved from to s.cells) s.items s.rest (set_extending None h.frame.words a None)
       (λ us. on_top (with_register a x) (on_top (with_register b null) us)) (λ f. with_register a x (with_register b null f)) (λ f ms. refl) (record {
         stack = refl;
         cells = cells_moved p m.cells s.cells from to h.agrees.cells;

@@ -14,7 +14,7 @@ use Rattle.aom_instructions.specs.declared.instr.Instr.{Instr}
 use Rattle.aom_instructions.specs.declared.instr.Instr.TheVariants.{JumpNull, New}
 use Rattle.aom_image.specs.declared.method.Thing.TheVariants.{Object as An_object_of}
 use Rattle.aom_cells.specs.Heap.{Heap, null, cell_at, word_of, field_of, count, blank, Changes}
-use Rattle.aom_roles.specs.Tables.{at, put_at}
+use Rattle.aom_roles.specs.Tables.{at, set_extending}
 use Rattle.aom_roles.specs.Tests.{AllTrue}
 use Rattle.aom_roles.specs.Things.{words_of}
 use Rattle.aom_semantics.specs.Places.{Place, Register, Field, Cell, held, with_new, word_field}
@@ -30,34 +30,34 @@ use Rattle.aom_frames.specs.declared.task.Task.TheVariants.{Run as Runs_frame}
 use Rattle.aom_machine_instructions.proofs.MachineStateLemmas.{all_same, cases, natives_made, requests_made, services_made, zeros_at}
 use Rattle.aom_machine_state.specs.declared.parts.Parts.{Parts}
 use Rattle.aom_machine_state.specs.Places.{Others, others, value_in, set_register}
-use Rattle.aom_machine_state.specs.Agrees.{Represents, number, SameCells, Agrees, heard_by}
-use Rattle.aom_machine_instructions.specs.Acts.{At_hand, Does, DoesIn}
+use Rattle.aom_machine_state.specs.Agrees.{Represents, number, SameCells, Agrees, observed_by}
+use Rattle.aom_machine_instructions.specs.Acts.{CurrentFrame, Does, DoesIn}
 use Rattle.aom_machine_state.specs.Cells.{refuses, refuses_entry, Made}
 use Rattle.aom_machine_state.specs.Places as places
-use Rattle.aom_machine_instructions.proofs.Running.{Top, by_top, register_shows, free, no_word, null_unnamed, unnamed, nothing_held, some_held, heard_fits}
+use Rattle.aom_machine_instructions.proofs.Running.{Top, by_top, register_shows, free, no_word, null_unnamed, unnamed, nothing_held, some_held, observed_fits}
 use Rattle.aom_machine_instructions.proofs.GoingOn.{goes_on_with, still_none, written}
 use Rattle.aom_machine_instructions.proofs.InstructionsLemmas.{delete_is}
 use Rattle.aom_machine_instructions.proofs.WordActs.{jumps, passes, plain_does, plain_in}
 use Rattle.aom_frames.specs.declared.item.Item.{Item}
 
 -- what a register shows that has no word
-pub shown : (p : Image) (m : Parts) (h : At_hand p m) (f : Machine_frame) (ms : List Machine_task) → Top m h.state h.frame h.below f ms →
+pub shown : (p : Image) (m : Parts) (h : CurrentFrame p m) (f : Machine_frame) (ms : List Machine_task) → Top m h.state h.frame h.below f ms →
     (a : ℕ) → word h.frame a ≡ None → slice_index_or f.registers a null ≡ number (held h.state.cells (Register (length h.below) a))
 shown p m h f ms top a none = subst (λ w. Represents (slice_index_or f.registers a null) w (held h.state.cells (Register (length h.below) a))) none
     (register_shows m h.state h.frame h.below f ms top a)
 
-pub shown_here : (p : Image) (m : Parts) (h : At_hand p m) (a : ℕ) → word h.frame a ≡ None →
+pub shown_here : (p : Image) (m : Parts) (h : CurrentFrame p m) (a : ℕ) → word h.frame a ≡ None →
     register_here m.stack.tasks a ≡ number (held h.state.cells (Register (length h.below) a))
 shown_here p m h a none =
     by_top p m h (λ us. register_here us a ≡ number (held h.state.cells (Register (length h.below) a))) (λ f ms top. shown p m h f ms top a none)
 
 module _ (m : Parts) (refused : List ℕ) where
   -- a jump unless a place owns something, by the number of what it owns
-  pub jumps_empty : (p : Image) (h : At_hand p m) (r : Place) (to : ℕ) → number (held h.state.cells r) ≡ null
+  pub jumps_empty : (p : Image) (h : CurrentFrame p m) (r : Place) (to : ℕ) → number (held h.state.cells r) ≡ null
       → Agrees p (places.to_place to m) (applied p h.frame h.below h.state (jumps_unless h.frame (held h.state.cells r) to))
   jumps_empty p h r to n = grind (arith, nat_tests, nothing_held p m h.typing h.state h.typed h.agrees r, jumps m refused p h to)
 
-  pub passes_full : (p : Image) (h : At_hand p m) (r : Place) (to : ℕ) → (number (held h.state.cells r) ≡ null → ⊥)
+  pub passes_full : (p : Image) (h : CurrentFrame p m) (r : Place) (to : ℕ) → (number (held h.state.cells r) ≡ null → ⊥)
       → Agrees p (places.next m) (applied p h.frame h.below h.state (jumps_unless h.frame (held h.state.cells r) to))
   passes_full p h r to n = grind (arith, nat_tests, some_held, passes m refused p h)
 
@@ -70,12 +70,12 @@ module _ (m : Parts) (refused : List ℕ) where
       (λ p h c met. passes_full p h (Register (length h.below) a) to (λ n. is (shown_here p m h a (no_word _ met.0) ∙ n)))
 
   -- null is written, where the register owns nothing
-  nulled : (p : Image) (h : At_hand p m) (a : ℕ) (r r' : Counters) → a < 16 → r ≡ r' → held h.state.cells (Register (length h.below) a) ≡ None → Agrees p
+  nulled : (p : Image) (h : CurrentFrame p m) (a : ℕ) (r r' : Counters) → a < 16 → r ≡ r' → held h.state.cells (Register (length h.below) a) ≡ None → Agrees p
       (places.next (set_register a null (record m { rest = r }))) (record h.state { tasks = Run (next (set_word h.frame a None)) ∷ h.below; rest = r' })
   nulled p h a r r' small rest none =
       let s = h.state in
       let mid = record m { rest = r } in
-      goes_on_with p m h mid s.cells s.items r' (put_at None h.frame.words a None) (on_top (with_register a null)) (with_register a null) (λ f ms. refl)
+      goes_on_with p m h mid s.cells s.items r' (set_extending None h.frame.words a None) (on_top (with_register a null)) (with_register a null) (λ f ms. refl)
       (record {
         stack = refl;
         cells = h.agrees.cells;
@@ -88,7 +88,7 @@ module _ (m : Parts) (refused : List ℕ) where
       }) (λ f ms e top. written p m h mid s.cells a null None None small refl f ms top (λ q. refl) (still_none p m h a none))
 
   -- what a destruction does where its needs are met
-  pub destroy_does : (p : Image) (new : Parts) (i : Instr) (a : ℕ) → action_of i ≡ action.Destroy a → ((h : At_hand p m) (c : Choice) →
+  pub destroy_does : (p : Image) (new : Parts) (i : Instr) (a : ℕ) → action_of i ≡ action.Destroy a → ((h : CurrentFrame p m) (c : Choice) →
       AllTrue (needs_delete p c h.frame h.below h.state a) →
       Agrees p new (applied p h.frame h.below h.state (deletes h.frame (held h.state.cells (Register (length h.below) a)) a))) → DoesIn p refused i m new
   destroy_does p new i a is act =
@@ -141,11 +141,11 @@ cells_made p h h' cs n class ws q same zeros small none some ch more within = re
     new k c e is = let both : Some (blank class) ≡ Some c = sym ch.here ∙ ap (λ i. cell_at h' i) (eqb-true n k e) ∙ is in cc
 
 -- whether the request at hand is for a cell
-makes_here : (p : Image) (m : Parts) (h : At_hand p m) (i : Instr) → instr_at p h.frame.method h.frame.place ≡ Some i → makes_cell p h.state.tasks ≡ makes (Some i)
+makes_here : (p : Image) (m : Parts) (h : CurrentFrame p m) (i : Instr) → instr_at p h.frame.method h.frame.place ≡ Some i → makes_cell p h.state.tasks ≡ makes (Some i)
 makes_here p m h i here = ap (makes_cell p) h.top ∙ ap makes here
 
 -- what the machine refuses is what the checked machine hears
-module _ (p : Image) (lines : LineBuffer) (m : Parts) (h : At_hand p m) (i : Instr) (here : instr_at p h.frame.method h.frame.place ≡ Some i) where
+module _ (p : Image) (lines : LineBuffer) (m : Parts) (h : CurrentFrame p m) (i : Instr) (here : instr_at p h.frame.method h.frame.place ≡ Some i) where
   abbrev is_named : ℕ → Bool
   is_named requests = list_any (λ n. n == raised requests) lines.refused
 
@@ -156,7 +156,7 @@ module _ (p : Image) (lines : LineBuffer) (m : Parts) (h : At_hand p m) (i : Ins
   same_entry_refusal none = grind (arith, nat_tests, makes_here p m h i here)
 
 -- a new cell's number is below those of messages
-pub new_small : (p : Image) (m : Parts) (h : At_hand p m) (heap : Heap) (n class : ℕ) → Changes m.cells heap n (Some (blank class)) → n < heap.limit → n < 4096
+pub new_small : (p : Image) (m : Parts) (h : CurrentFrame p m) (heap : Heap) (n class : ℕ) → Changes m.cells heap n (Some (blank class)) → n < heap.limit → n < 4096
 new_small p m h heap n class ch within = let few = h.formed.header.cells in omega (arith, within, ch.limit, h.agrees.cells.limit, few)
 
 module _ (m : Parts) (lines : LineBuffer) where
@@ -167,14 +167,14 @@ module _ (m : Parts) (lines : LineBuffer) where
   refused_does : (a class : ℕ) → a < 16 → true ≡ refuses lines m → Does lines.refused (New a class) m (places.next (set_register a null (asked m.cells)))
   unfolding DoesIn
   refused_does a class small full p h here = (
-    record { name = null; refused = true; answer = heard_by m },
-    record { name = null_unnamed p m h.state h.agrees; refusal = full ∙ same_refusal p lines m h (New a class) here refl; answer = heard_fits m },
+    record { name = null; refused = true; answer = observed_by m },
+    record { name = null_unnamed p m h.state h.agrees; refusal = full ∙ same_refusal p lines m h (New a class) here refl; answer = observed_fits m },
     refl,
     λ needs typed. nulled m lines.refused p h a _ _ small (ap (λ (r : Counters). record r { requests = raised r.requests }) h.agrees.rest) (free _ needs.0),
   )
 
   -- a new cell comes to a register
-  pub made_agrees : (p : Image) (h : At_hand p m) (a class n : ℕ) (heap : Heap) (r : Counters) → a < 16 → record m.rest { requests = raised m.rest.requests }
+  pub made_agrees : (p : Image) (h : CurrentFrame p m) (a class n : ℕ) (heap : Heap) (r : Counters) → a < 16 → record m.rest { requests = raised m.rest.requests }
       ≡ r → is_none (held h.state.cells (Register (length h.below) a)) ≡ true → class < 256 → cell_at m.cells n ≡ None → n ≢ null →
       Changes m.cells heap n (Some (blank class)) → count heap ≡ count m.cells + 1 → n < heap.limit → Agrees p (places.next (set_register a n (asked heap)))
       (record h.state { cells = with_new n (An_object_of class) (zeros p class) (Register (length h.below) a) h.state.cells; tasks = Run (next (set_word h.frame a None)) ∷ h.below; rest = r })
@@ -184,7 +184,7 @@ module _ (m : Parts) (lines : LineBuffer) where
       let cs = with_new n (An_object_of class) (zeros p class) here s.cells in
       let below = new_small p m h heap n class ch within in
       let fresh = unnamed p m s n h.agrees below none in
-      goes_on_with p m h (asked heap) cs s.items r (put_at None h.frame.words a None) (on_top (with_register a n)) (with_register a n) (λ f ms. refl) (record {
+      goes_on_with p m h (asked heap) cs s.items r (set_extending None h.frame.words a None) (on_top (with_register a n)) (with_register a n) (λ f ms. refl) (record {
         stack = refl;
         cells = cells_made p m.cells heap s.cells n class (zeros p class) here h.agrees.cells (zeros_at (words_of p class)) fits none some ch more within;
         entries = h.agrees.entries;
@@ -203,8 +203,8 @@ module _ (m : Parts) (lines : LineBuffer) where
       (Some (blank class)) → count heap ≡ count m.cells + 1 → n < heap.limit → Does lines.refused (New a class) m (places.next (set_register a n (asked heap)))
   unfolding DoesIn
   made_does a class n heap small granted fits none some ch more within p h here = (
-    record { name = n; refused = false; answer = heard_by m },
-    record { name = unnamed p m h.state n h.agrees (new_small p m h heap n class ch within) none; refusal = granted ∙ same_refusal p lines m h (New a class) here refl; answer = heard_fits m },
+    record { name = n; refused = false; answer = observed_by m },
+    record { name = unnamed p m h.state n h.agrees (new_small p m h heap n class ch within) none; refusal = granted ∙ same_refusal p lines m h (New a class) here refl; answer = observed_fits m },
     refl,
     λ needs typed. made_agrees p h a class n heap _ small (asks_one h.state.rest h.agrees.rest) needs.0 fits none some ch more within,
   )

@@ -6,7 +6,7 @@ use Rattle.aom_frames.specs.declared.task.Task.TheVariants.{Trapped}
 use Rattle.aom_frames.specs.declared.dispatch.Dispatch.{Dispatch}
 use Rattle.aom_frames.specs.declared.task.TaskKind.{TaskKind}
 use Rattle.aom_frames.specs.declared.task.TaskKind.TheVariants as kinds
-use Rattle.aom_frames.specs.Tasks.{IsOf, Runs}
+use Rattle.aom_frames.specs.Tasks.{IsOf, TopFrameIs}
 use Rattle.aom_machine_instructions.specs.Going.{ending_here}
 use Rattle.aom_image.specs.Image.{Image}
 use Rattle.aom_machine_state.specs.Room.{ReturnsTo}
@@ -21,8 +21,8 @@ module _ (kind : TaskKind) (us : List Task) (top : Topped kind us) where
   below_it : (k : TaskKind) → kind ≡ k → (P : List Task → Type 0) → ((t : Task) → IsOf k t → P (t ∷ top.0)) → P us
   below_it k is P by = subst P (sym top.2) (by top.1 (subst (λ x. IsOf x top.1) is top.3))
 
-  pub runs_on : kind ≡ kinds.Run → Runs us
-  runs_on is = below_it kinds.Run is Runs (λ t of. subst (λ x. Runs (x ∷ top.0)) (sym of.1) tt)
+  pub runs_on : kind ≡ kinds.Run → TopFrameIs us
+  runs_on is = below_it kinds.Run is TopFrameIs (λ t of. subst (λ x. TopFrameIs (x ∷ top.0)) (sym of.1) tt)
 
   pub trap_on : kind ≡ kinds.Trapped → us ≡ Trapped ∷ top.0
   trap_on is = below_it kinds.Trapped is (λ vs. vs ≡ Trapped ∷ top.0) (λ t of. ap (λ x. x ∷ top.0) of)
@@ -49,15 +49,15 @@ module _ (kind : TaskKind) (us : List Task) (top : Topped kind us) where
   ends_on_top {d} is = below_it (kinds.Dispatched d) is (λ vs. ending_here vs ≡ Some d) (λ t of. ap (λ y. ending_here (y ∷ top.0)) of)
 
 -- a dispatch that is told is at its end, and one at its end is told
-abbrev IsTold : Option Dispatch → Type 0
-IsTold None = ⊥
-IsTold (Some d) = Unit {0}
+abbrev IsReported : Option Dispatch → Type 0
+IsReported None = ⊥
+IsReported (Some d) = Unit {0}
 
-told_ends : (us : List Task) → IsTold (ending_here us) → IsEnding us
-told_ends x told = grind arith
+reported_ends : (us : List Task) → IsReported (ending_here us) → IsEnding us
+reported_ends x reported = grind arith
 
 pub ending_of : {d : Dispatch} (us : List Task) → ending_here us ≡ Some d → IsEnding us
-ending_of us e = told_ends us (subst IsTold (sym e) tt)
+ending_of us e = reported_ends us (subst IsReported (sym e) tt)
 
 -- nothing returns to what closes the sessions of a server
 pub closing_not_returned : (p : Image) (us : List Task) → IsClosing us → ReturnsTo p us → ⊥

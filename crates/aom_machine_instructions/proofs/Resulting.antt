@@ -1,7 +1,7 @@
 -- A method that a result comes to, or that loses one, still runs where it did.
 use Rattle.std.proofs.lemmas.Bool.Decides.{nat_tests}
 use Rattle.std.proofs.Common.{arith, ℕ, ◌+◌, ◌<◌, ◌≡◌, ◌^◌, ◌∷◌, List, length}
-use Rattle.aom_frames.specs.Tasks.{Runs, on_top, place_here, with_register}
+use Rattle.aom_frames.specs.Tasks.{TopFrameIs, on_top, place_here, with_register}
 use Rattle.aom_frames.specs.declared.frame.Frame.{Frame}
 use Rattle.aom_frames.specs.declared.task.Task.{Task}
 use Rattle.aom_frames.specs.declared.task.Task.TheVariants.{Run}
@@ -11,18 +11,18 @@ use Rattle.aom_machine_instructions.specs.Acts.{resulted}
 use Rattle.aom_machine_instructions.specs.Cleanup.{lost}
 
 -- a method runs whatever becomes of its frame
-pub on_top_runs : (f : Frame → Frame) (ts : List Task) → Runs ts → Runs (on_top f ts)
+pub on_top_runs : (f : Frame → Frame) (ts : List Task) → TopFrameIs ts → TopFrameIs (on_top f ts)
 on_top_runs f x runs = grind arith
 
 pub on_top_long : (f : Frame → Frame) (ts : List Task) → length (on_top f ts) ≡ length ts
 on_top_long f x = grind arith
 
-pub resulted_runs : (g : Gives) (to n : ℕ) (m : Parts) → Runs m.stack.tasks → Runs (resulted g to n m).stack.tasks
+pub resulted_runs : (g : Gives) (to n : ℕ) (m : Parts) → TopFrameIs m.stack.tasks → TopFrameIs (resulted g to n m).stack.tasks
 resulted_runs x to n m runs = grind (arith, nat_tests, on_top_runs)
 
 -- it runs there, and may go on
 pub record GoesOn (ts : List Task) : Type 0 where
-  pub runs : Runs ts
+  pub runs : TopFrameIs ts
   pub within : (place_here ts + 1) < 2 ^ 64
 
 pub set_goes_on : (k n : ℕ) (ts : List Task) → GoesOn ts → GoesOn (on_top (with_register k n) ts)

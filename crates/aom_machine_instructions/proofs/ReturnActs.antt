@@ -12,45 +12,45 @@ use Rattle.aom_instructions.specs.declared.transfer.Transfer.TheVariants as tran
 use Rattle.aom_image.specs.declared.method.Gives.{Gives}
 use Rattle.aom_image.specs.declared.method.Gives.TheVariants.{Left, Maybe as A_maybe, Nothing, Own as An_own, Word as A_word}
 use Rattle.aom_cells.specs.Heap.{Heap, null}
-use Rattle.aom_shape.specs.Kinds.{is_unowning, register}
-use Rattle.aom_shape.specs.declared.kind.Kind.{Kind}
-use Rattle.aom_shape.specs.declared.kind.Kind.TheVariants.{Own, Maybe}
-use Rattle.aom_shape.specs.Shape.{Shape}
-use Rattle.aom_rules.specs.Typing.{Typing}
+use Rattle.aom_abstract_state.specs.Kinds.{is_unowning, register}
+use Rattle.aom_abstract_state.specs.declared.kind.Kind.{Kind}
+use Rattle.aom_abstract_state.specs.declared.kind.Kind.TheVariants.{Own, Maybe}
+use Rattle.aom_abstract_state.specs.AbstractState.{AbstractState}
+use Rattle.aom_typing_rules.specs.Typing.{Typing}
 use Rattle.aom_machine_instructions.proofs.SafetyLemmas.{all_parts, claim_register, claim_register_above, dispatch_layer, ended_alike, fit_steady}
 use Rattle.aom_machine_instructions.proofs.SafetyLemmas.{fits_unowning, mark_layer, method_layer, sits_lives, stands_object, steady_ended, tasks_steady}
 use Rattle.aom_machine_instructions.proofs.SafetyLemmas.{under_dispatch}
-use Rattle.aom_semantics.specs.Calls.{answered_by, below_top, end_needs, ended_well, needs_return, result_needs, result_register, returned, told_answer}
+use Rattle.aom_semantics.specs.Calls.{answered_by, below_top, end_needs, ended_well, needs_return, result_needs, result_register, returned, reported_answer}
 use Rattle.aom_safety.specs.Claims.{Layer, Method, Mark, tasks_of, claim, declared}
-use Rattle.aom_semantics.specs.Places.{Cell, named, Session, Tidy, Elsewhere, Entry, Field, Going, Object}
+use Rattle.aom_semantics.specs.Places.{Cell, named, Session, NoDuplicates, Elsewhere, Entry, Field, Going, Object}
 use Rattle.aom_semantics.specs.Places.{Place, Register, changed, held, moved, same_place, seen}
-use Rattle.aom_semantics.specs.State.{Accepted, Accepts, Of_server, Seat, Dispatch, Dispatched, Frame, Run, State, Task, Trapped, next, set_word, word}
+use Rattle.aom_semantics.specs.State.{Accepted, Accepts, Of_server, OwnedObject, Dispatch, Dispatched, Frame, Run, State, Task, Trapped, next, set_word, word}
 use Rattle.aom_safety.specs.WellTyped.{Awaits, Fits, Good, WellTyped, WordFits}
-use Rattle.aom_machine_instructions.proofs.SemanticsLemmas.{at-put_at, held_lives, held_moved}
+use Rattle.aom_machine_instructions.proofs.SemanticsLemmas.{at-set_extending, held_lives, held_moved}
 use Rattle.aom_frames.specs.Items.{Stack as Machine_items}
 use Rattle.aom_frames.specs.declared.item.Item.TheVariants.{Mark as Is_mark}
 use Rattle.aom_frames.specs.declared.item.Item.{Item}
-use Rattle.aom_frames.specs.Tasks.{Runs, method_here, place_here, register_here, below_first}
+use Rattle.aom_frames.specs.Tasks.{TopFrameIs, method_here, place_here, register_here, below_first}
 use Rattle.aom_frames.specs.declared.frame.Frame.{Frame as Machine_frame}
 use Rattle.aom_frames.specs.declared.task.Task.{Task as Machine_task}
 use Rattle.aom_frames.specs.declared.task.Task.TheVariants.{Run as Runs_frame, Trapped as Is_trap, Dispatched as Ends}
 use Rattle.aom_frames.specs.declared.dispatch.Dispatch.{Dispatch as Machine_dispatch}
 use Rattle.aom_frames.specs.declared.dispatch.Dispatch.TheVariants.{Server as Of_one_served}
-use Rattle.aom_active.specs.Agrees.{Active}
+use Rattle.aom_active_objects.specs.Agrees.{Active}
 use Rattle.aom_semantics.specs.Requests.{ended_cells}
-use Rattle.aom_machine_instructions.specs.Ends.{heard, told_by}
+use Rattle.aom_machine_instructions.specs.Ends.{observed, reported_by}
 use Rattle.aom_machine_instructions.specs.Going.{ending_here}
 use Rattle.aom_machine_instructions.proofs.CancelEnds.{ended_agrees, method_is}
 use Rattle.aom_machine_instructions.proofs.OnTop.{ending_of}
 use Rattle.aom_machine_state.specs.declared.parts.Parts.{Parts}
 use Rattle.aom_machine_state.specs.Places.{others, Others, value_in, register_in, going_in, with_tasks, IsDestroying, IsEnding, IsTrapped, IsUnwinding}
-use Rattle.aom_machine_state.specs.Agrees.{subject_of, word_at, Represents, SameDispatch, SameFrame, SameTasks, Agrees, dispatch_of, seat_of}
-use Rattle.aom_machine_instructions.specs.Acts.{At_hand, resulted, DoesIn}
+use Rattle.aom_machine_state.specs.Agrees.{subject_of, word_at, Represents, SameDispatch, SameFrame, SameTasks, Agrees, dispatch_of, owned_object_of}
+use Rattle.aom_machine_instructions.specs.Acts.{CurrentFrame, resulted, DoesIn}
 use Rattle.aom_machine_state.specs.Places as places
-use Rattle.aom_machine_instructions.proofs.MachineStateLemmas.{A_catcher, A_last_trap, A_leave, A_method, Alike, An_end, Tops, alike, at_depth, both_end}
+use Rattle.aom_machine_instructions.proofs.MachineStateLemmas.{A_catcher, A_last_trap, A_leave, A_method, Alike, An_end, TopMatches, alike, at_depth, both_end}
 use Rattle.aom_machine_instructions.proofs.MachineStateLemmas.{both_run, both_trapped, both_unwind, cases, catcher_on_top, cell_small, connecting_below}
 use Rattle.aom_machine_instructions.proofs.MachineStateLemmas.{end_on_top, going_past, held_over, higher, kept, last_trap_on_top, leave_on_top, mark_shows_none}
-use Rattle.aom_machine_instructions.proofs.MachineStateLemmas.{method_on_top, none_alike, over_value, over_words, register_past, tasks_over, tops, value_alike}
+use Rattle.aom_machine_instructions.proofs.MachineStateLemmas.{method_on_top, none_alike, over_value, over_words, register_past, tasks_over, top_matches, value_alike}
 use Rattle.aom_machine_instructions.proofs.MachineStateLemmas.{value_kept, value_written, word_next, word_past, word_written, writes}
 use Rattle.aom_machine_instructions.proofs.CallActs.{closing, ended, fits_null, shows_null}
 use Rattle.aom_image.specs.declared.method.Thing.{Thing}
@@ -68,7 +68,7 @@ use Rattle.aom_machine_instructions.specs.Serving.{CanServe, opened_by, served}
 use Rattle.aom_machine_instructions.specs.Acts.{requested as counted}
 use Rattle.aom_machine_instructions.specs.Next.{IsNext, counting}
 use Rattle.aom_machine_instructions.specs.Requests.{IsOver}
-use Rattle.aom_machine_instructions.proofs.Housing.{at_hand, return_needs}
+use Rattle.aom_machine_instructions.proofs.ReceiverHolding.{has_task, return_needs}
 use Rattle.aom_machine_instructions.proofs.InstructionsLemmas.{return_is}
 use Rattle.aom_machine_instructions.proofs.Stepping.{at_step}
 use Rattle.aom_machine_instructions.proofs.Running.{Aside, Top, agrees_with, aside_moved, aside_of, aside_unmarked, by_top}
@@ -114,20 +114,20 @@ bears Nothing = false
 bears (Left c) = false
 bears _ = true
 
-awaits : (g : Gives) (x : ℕ) (sh : Shape) → Awaits g x sh → OnTrue (bears g) (is_unowning (register sh x) ≡ true)
+awaits : (g : Gives) (x : ℕ) (sh : AbstractState) → Awaits g x sh → OnTrue (bears g) (is_unowning (register sh x) ≡ true)
 awaits x y sh a = grind arith
 
-pub awaiting : (g : Gives) (x : ℕ) (sh : Shape) → bears g ≡ true → Awaits g x sh → is_unowning (register sh x) ≡ true
+pub awaiting : (g : Gives) (x : ℕ) (sh : AbstractState) → bears g ≡ true → Awaits g x sh → is_unowning (register sh x) ≡ true
 awaiting g x sh b a = OnTrue_at b (awaits g x sh a)
 
 -- a register that is claimed to own nothing owns nothing
-pub awaits_none : (p : Image) (s : State) (ls : List Layer) (ts : List Task) (sh : Shape) (x : ℕ) (k : Kind) → is_unowning (register sh x) ≡ true → k ≡ register
+pub awaits_none : (p : Image) (s : State) (ls : List Layer) (ts : List Task) (sh : AbstractState) (x : ℕ) (k : Kind) → is_unowning (register sh x) ≡ true → k ≡ register
     sh x → Fits p (seen s.cells) (held s.cells (Register (length (tasks_of ls)) x)) k → tasks_of ls ≡ ts → held s.cells (Register (length ts) x) ≡ None
 awaits_none p s ls ts sh x k quiet claims fits rest = grind (arith, nat_tests, fits_unowning p)
 
 -- under a trap stands the method that set it
 pub caught_layer : (P : List Layer → Type 0) (G : Type 0) (caller : Frame) (ts : List Task) (ls : List Layer) → tasks_of ls ≡ Trapped ∷ Run caller ∷ ts →
-    P ls → ((gv : Gives) (sh : Shape) (below : List Layer) → tasks_of below ≡ ts → P (Mark gv ∷ Method caller sh ∷ below) → G) → G
+    P ls → ((gv : Gives) (sh : AbstractState) (below : List Layer) → tasks_of below ≡ ts → P (Mark gv ∷ Method caller sh ∷ below) → G) → G
 caught_layer P G caller ts ls under has gives = mark_layer P (Run caller ∷ ts) ls under has
     (λ gv ls under has. method_layer (λ ls. P (Mark gv ∷ ls)) caller ts ls under has (λ sh ls rest has. gives gv sh ls rest has))
 
@@ -373,7 +373,7 @@ module _ (p : Image) (m : Parts) (t : Typing) (s : State) (fr : Frame) (agrees :
     code_alone : (cs : List Cell) (caller' : Frame) (items : _) → WellTyped p t (record s
         { cells = cs; tasks = Run (next (set_word caller' (suc z) (Some (pos 0)))) ∷ ts; items = items }) → held cs (Register (length ts) (suc z)) ≡ None
     code_alone cs caller' items typed = word_alone p t _ (next (set_word caller' (suc z) (Some (pos 0)))) ts (suc z) (pos 0) typed refl
-        (at-put_at None caller'.words (suc z) (suc z) (Some (pos 0)) ∙ ap (λ b. cond b (Some (pos 0)) (word caller' (suc z))) (eq-eqb (suc z) (suc z) refl))
+        (at-set_extending None caller'.words (suc z) (suc z) (Some (pos 0)) ∙ ap (λ b. cond b (Some (pos 0)) (word caller' (suc z))) (eq-eqb (suc z) (suc z) refl))
 
     through : (gv : Gives) → GoesThrough gv
     through A_word met same typed = lands_coded true g ms caller ts top small_too es marked coded _ _ _ (code_alone _ (set_word caller z (word fr a)) _ typed)
@@ -409,25 +409,25 @@ opened_plain : (n : ℕ) (x : Machine_dispatch) (us : List Machine_task) (k : ke
 opened_plain n x us k plain = grind arith
 
 -- `accept` gives an object, a session with its server
-record Gives_session (p : Image) (s : State) (fr : Frame) (x : Seat) : Type 0 where
+record Gives_session (p : Image) (s : State) (fr : Frame) (x : OwnedObject) : Type 0 where
   thing : Thing
   gives : gives_of p fr.method ≡ An_own thing
   object : is_object thing ≡ true
   lives : named s.cells x.object.name ≡ Some x.object
 
-gives_session : (p : Image) (t : Typing) (s : State) (fr : Frame) (x : Seat) (c : ℕ) (ts : List Task) →
+gives_session : (p : Image) (t : Typing) (s : State) (fr : Frame) (x : OwnedObject) (c : ℕ) (ts : List Task) →
     WellTyped p t s → s.tasks ≡ Run fr ∷ Trapped ∷ Dispatched (Of_server x c Accepts) ∷ ts → Gives_session p s fr x
 gives_session p t s fr x c ts typed top =
     method_layer (Good p t s.cells) fr (Trapped ∷ Dispatched (Of_server x c Accepts) ∷ ts) typed.layers (sym typed.tasks ∙ top) typed.good (λ sh ls under good.
     mark_layer (λ ls. Good p t s.cells (Method fr sh ∷ ls)) (Dispatched (Of_server x c Accepts) ∷ ts) ls under good (λ gv ls under good.
-    dispatch_layer (λ ls. Good p t s.cells (Method fr sh ∷ Mark gv ∷ ls)) (Of_server x c Accepts) ts ls under good (λ seats ls _ good.
+    dispatch_layer (λ ls. Good p t s.cells (Method fr sh ∷ Mark gv ∷ ls)) (Of_server x c Accepts) ts ls under good (λ owned_chain ls _ good.
     let mark = good.stack.4 in
     let dispatch = mark.1 in
     record {
       thing = dispatch.0.0;
       gives = mark.0.0 ∙ dispatch.0.1;
       object = session_is (session_class p x.object.thing) dispatch.0.0 dispatch.0.2;
-      lives = sits_lives s.cells seats x dispatch.2 dispatch.3;
+      lives = sits_lives s.cells owned_chain x dispatch.2 dispatch.3;
     })))
   where
     session_is : (o : Option ℕ) (y : Thing) → of_class o ≡ Some y → is_object y ≡ true
@@ -435,13 +435,13 @@ gives_session p t s fr x c ts typed top =
 
 -- the number of what a register owns then is that of a cell
 owned_number : (p : Image) (m : Parts) (s : State) → p.header.cells ≤ 4096 → Agrees p m s → (r : Place) (n : ℕ) (y : Thing) →
-    is_object y ≡ true → Tidy s.cells → is_some (held s.cells r) ≡ true → is_thing p y (held s.cells r) ≡ true → Represents n None (held s.cells r) → n < 4096
-owned_number p m s few agrees r n y object tidy some thing shows = go (held s.cells r) refl some thing shows
+    is_object y ≡ true → NoDuplicates s.cells → is_some (held s.cells r) ≡ true → is_thing p y (held s.cells r) ≡ true → Represents n None (held s.cells r) → n < 4096
+owned_number p m s few agrees r n y object no_duplicates some thing shows = go (held s.cells r) refl some thing shows
   where
     go : (o : Option Object) → held s.cells r ≡ o → is_some o ≡ true → is_thing p y o ≡ true → Represents n None o → n < 4096
     go None e some thing shows = absurd (false≢true some)
     go (Some o) e some thing shows =
-        let lives = held_lives s.cells r o tidy e in
+        let lives = held_lives s.cells r o no_duplicates e in
         let is : is_object o.thing ≡ true = stands_object p o.thing y thing ∙ object in
         subst (λ k. k < 4096) (sym shows) (some_given (λ c. IsSome c) (cell_at m.cells o.name)
         (object_lives_at p m s agrees o lives is) (λ none. cc) (λ c there some. cell_small p m.cells s.cells agrees.cells few o.name c there))
@@ -454,10 +454,10 @@ lives_within p m s agrees o lives object = some_given (λ c. IsSome c) (cell_at 
 
 -- ---- a dispatch that has asked hears the answer
 
-heard_same : (answer answer' : ℤ) (x : Machine_dispatch) (d : Dispatch) → answer ≡ answer' → SameDispatch x d → SameDispatch (heard answer x) (answered_by answer' d)
-heard_same answer answer' x d e same = (same.0, subst (λ d. dispatch_of same.0 (heard answer x) ≡ answered_by answer' d) same.1 (go same.0 x))
+observed_same : (answer answer' : ℤ) (x : Machine_dispatch) (d : Dispatch) → answer ≡ answer' → SameDispatch x d → SameDispatch (observed answer x) (answered_by answer' d)
+observed_same answer answer' x d e same = (same.0, subst (λ d. dispatch_of same.0 (observed answer x) ≡ answered_by answer' d) same.1 (go same.0 x))
   where
-    go : (q : Place) (x : Machine_dispatch) → dispatch_of q (heard answer x) ≡ answered_by answer' (dispatch_of q x)
+    go : (q : Place) (x : Machine_dispatch) → dispatch_of q (observed answer x) ≡ answered_by answer' (dispatch_of q x)
     go q y = grind arith
 
 -- a dispatch has no place of its own
@@ -474,16 +474,16 @@ redispatched p m s x y ms d e ts same agrees =
     values (Elsewhere o) = agrees.values (Elsewhere o)
 
 -- what the machine tells is the word that the method gives
-told_same : (p : Image) (m : Parts) (h : At_hand p m) (g : Gives) (a : ℕ) → AllTrue (result_needs p h.frame h.below h.state g a)
-    → told_by g (register_here m.stack.tasks a) ≡ told_answer g h.frame a
-told_same p m h A_word a met = word_read p m h a met.0
-told_same p m h _ a met = refl
+reported_same : (p : Image) (m : Parts) (h : CurrentFrame p m) (g : Gives) (a : ℕ) → AllTrue (result_needs p h.frame h.below h.state g a)
+    → reported_by g (register_here m.stack.tasks a) ≡ reported_answer g h.frame a
+reported_same p m h A_word a met = word_read p m h a met.0
+reported_same p m h _ a met = refl
 
 -- ---- the return, once the cancel that the method may have ended is over
 
 -- what a return does where its needs are met
 pub return_does : (p : Image) (m new : Parts) (refused : List ℕ) (i : Instr) (a : ℕ) → transfer_of i ≡ transfer.Return a →
-    ((h : At_hand p m) → AllTrue (needs_return p h.frame h.below h.state a) → (let over = record h.state { cells = ended_cells p h.frame h.state.cells } in
+    ((h : CurrentFrame p m) → AllTrue (needs_return p h.frame h.below h.state a) → (let over = record h.state { cells = ended_cells p h.frame h.state.cells } in
     WellTyped p h.typing (returned p h.frame h.below over (gives_of p h.frame.method) a h.below) →
     Agrees p new (returned p h.frame h.below over (gives_of p h.frame.method) a h.below))) → DoesIn p refused i m new
 return_does p m new refused i a is act =
@@ -495,24 +495,24 @@ module _ (p : Image) (m : Parts) (refused : List ℕ) (i : Instr) (a : ℕ) (is_
   abbrev mid : Parts
   mid = record m { active = act }
 
-  abbrev past : At_hand p m → State
+  abbrev past : CurrentFrame p m → State
   past h = record h.state { cells = ended_cells p h.frame h.state.cells }
 
-  abbrev after : (h : At_hand p m) → List Task → State
+  abbrev after : (h : CurrentFrame p m) → List Task → State
   after h ts = returned p h.frame ts (past h) (gives_of p h.frame.method) a ts
 
-  agree : (h : At_hand p m) → Agrees p mid (past h)
+  agree : (h : CurrentFrame p m) → Agrees p mid (past h)
   agree h = ended_agrees p m h act is_over
 
-  still : (h : At_hand p m) (q : Place) → held (past h).cells q ≡ held h.state.cells q
+  still : (h : CurrentFrame p m) (q : Place) → held (past h).cells q ≡ held h.state.cells q
   still h q = (ended_alike p h.frame h.state.cells).held_so q
 
-  top_over : (h : At_hand p m) (ts : List Task) (f : Machine_frame) (ms : List Machine_task) → Top m h.state h.frame ts f ms → Top mid (past h) h.frame ts f ms
+  top_over : (h : CurrentFrame p m) (ts : List Task) (f : Machine_frame) (ms : List Machine_task) → Top m h.state h.frame ts f ms → Top mid (past h) h.frame ts f ms
   top_over h ts f ms top = record { frame = top.frame; below = top.below; deep = top.deep; values = grind (arith, nat_tests, still h) }
 
   -- what holds of the machine's tasks tells what is below its method
   by_return : (P : List Machine_task → Type 0) (G : List Machine_task → Parts) → P m.stack.tasks
-      → ((h : At_hand p m) (f : Machine_frame) (ms : List Machine_task) → Top mid (past h) h.frame h.below f ms → Alike ms h.below → AllTrue
+      → ((h : CurrentFrame p m) (f : Machine_frame) (ms : List Machine_task) → Top mid (past h) h.frame h.below f ms → Alike ms h.below → AllTrue
       (result_needs p h.frame h.below h.state (gives_of p h.frame.method) a) → AllTrue (end_needs p h.frame h.below h.state h.below) → WellTyped p h.typing
       (after h h.below) → P (Runs_frame f ∷ ms) → Agrees p (G (Runs_frame f ∷ ms)) (after h h.below)) → DoesIn p refused i m (G m.stack.tasks)
   by_return P G has each = return_does p m (G m.stack.tasks) refused i a is_return (λ h needs typed.
@@ -520,16 +520,16 @@ module _ (p : Image) (m : Parts) (refused : List ℕ) (i : Instr) (a : ℕ) (is_
       by_top p m h (λ us. P us → Agrees p (G us) (after h h.below))
       (λ f ms top has. each h f ms (top_over h h.below f ms top) (alike ms h.below top.below) met.0 met.1.1.1.1 typed has) has)
 
-  pub return_to_method : (x : ℕ) → Runs (below_first m.stack.tasks) → x < 16 →
+  pub return_to_method : (x : ℕ) → TopFrameIs (below_first m.stack.tasks) → x < 16 →
       x ≡ result_register (instr_at p (method_here (below_first m.stack.tasks)) (place_here (below_first m.stack.tasks))) → DoesIn p refused i m
       (places.next (resulted (gives_of p (method_here m.stack.tasks)) x (register_here m.stack.tasks a) (with_tasks (below_first m.stack.tasks) mid)))
   return_to_method x runs small is = by_return
-      (λ us. Runs (below_first us) × (x ≡ result_register (instr_at p (method_here (below_first us)) (place_here (below_first us))))) (λ us. places.next
+      (λ us. TopFrameIs (below_first us) × (x ≡ result_register (instr_at p (method_here (below_first us)) (place_here (below_first us))))) (λ us. places.next
       (resulted (gives_of p (method_here us)) x (register_here us a) (with_tasks (below_first us) mid))) (runs, is) (λ h f ms top same met last typed has. go h
-      f ms h.below h.top top (tops A_method ms has.0) same has.1 (wordless p h.frame h.below h.state (gives_of p h.frame.method) a met) typed)
+      f ms h.below h.top top (top_matches A_method ms has.0) same has.1 (wordless p h.frame h.below h.state (gives_of p h.frame.method) a met) typed)
     where
-      go : (h : At_hand p m) (f : Machine_frame) (ms : List Machine_task) (ts : List Task) → h.state.tasks ≡ Run h.frame ∷ ts → Top mid (past h) h.frame ts f ms
-          → Tops A_method ms → Alike ms ts → x ≡ result_register (instr_at p (method_here ms) (place_here ms))
+      go : (h : CurrentFrame p m) (f : Machine_frame) (ms : List Machine_task) (ts : List Task) → h.state.tasks ≡ Run h.frame ∷ ts → Top mid (past h) h.frame ts f ms
+          → TopMatches A_method ms → Alike ms ts → x ≡ result_register (instr_at p (method_here ms) (place_here ms))
           → Wordless (gives_of p h.frame.method) (word h.frame a) → WellTyped p h.typing (after h ts)
           → Agrees p (places.next (resulted (gives_of p f.method) x (slice_index_or f.registers a null) (with_tasks ms mid))) (after h ts)
       go h f _ _ e top (method_on_top g ms) (both_run _ caller _ ts frame _ _) is wordless typed =
@@ -541,18 +541,18 @@ module _ (p : Image) (m : Parts) (refused : List ℕ) (i : Instr) (a : ℕ) (is_
           (after h (Run caller ∷ ts))) (sym at) (to_method p mid h.typing (past h) h.frame (agree h) f a g ms caller ts top (λ some. still h _
           ∙ awaited p h.typing h.state h.frame caller ts h.typed e some) (subst (λ k. k < 16) at small) (gives_of p h.frame.method) wordless refl typed))
 
-  pub return_through : (es : Machine_items) (x : ℕ) → IsTrapped (below_first m.stack.tasks) → Runs (below_first (below_first m.stack.tasks)) → m.entries
+  pub return_through : (es : Machine_items) (x : ℕ) → IsTrapped (below_first m.stack.tasks) → TopFrameIs (below_first (below_first m.stack.tasks)) → m.entries
       ≡ record es { items = Is_mark ∷ es.items } → suc x < 16 → x ≡ result_register (instr_at p (method_here (below_first (below_first m.stack.tasks)))
       (place_here (below_first (below_first m.stack.tasks)))) → DoesIn p refused i m (places.next (places.set_register (suc x) 0 (resulted (gives_of p
       (method_here m.stack.tasks)) x (register_here m.stack.tasks a) (record (with_tasks (below_first (below_first m.stack.tasks)) mid) { entries = es }))))
-  return_through es x trapped runs marked small is = by_return (λ us. IsTrapped (below_first us) × Runs (below_first (below_first us))
+  return_through es x trapped runs marked small is = by_return (λ us. IsTrapped (below_first us) × TopFrameIs (below_first (below_first us))
       × (x ≡ result_register (instr_at p (method_here (below_first (below_first us))) (place_here (below_first (below_first us))))))
       (λ us. places.next (places.set_register (suc x) 0 (resulted (gives_of p (method_here us)) x (register_here us a)
       (record (with_tasks (below_first (below_first us)) mid) { entries = es })))) (trapped, runs, is) (λ h f ms top same met last typed has. go h f ms h.below
-      h.top top (tops A_catcher ms (has.0, has.1)) same has.2 (wordless p h.frame h.below h.state (gives_of p h.frame.method) a met) typed)
+      h.top top (top_matches A_catcher ms (has.0, has.1)) same has.2 (wordless p h.frame h.below h.state (gives_of p h.frame.method) a met) typed)
     where
-      go : (h : At_hand p m) (f : Machine_frame) (ms : List Machine_task) (ts : List Task) → h.state.tasks ≡ Run h.frame ∷ ts → Top mid (past h) h.frame ts f ms
-          → Tops A_catcher ms → Alike ms ts → x ≡ result_register (instr_at p (method_here (below_first ms)) (place_here (below_first ms)))
+      go : (h : CurrentFrame p m) (f : Machine_frame) (ms : List Machine_task) (ts : List Task) → h.state.tasks ≡ Run h.frame ∷ ts → Top mid (past h) h.frame ts f ms
+          → TopMatches A_catcher ms → Alike ms ts → x ≡ result_register (instr_at p (method_here (below_first ms)) (place_here (below_first ms)))
           → Wordless (gives_of p h.frame.method) (word h.frame a) → WellTyped p h.typing (after h ts)
           → Agrees p (places.next (places.set_register (suc x) 0
           (resulted (gives_of p f.method) x (slice_index_or f.registers a null) (record (with_tasks (below_first ms) mid) { entries = es })))) (after h ts)
@@ -567,7 +567,7 @@ module _ (p : Image) (m : Parts) (refused : List ℕ) (i : Instr) (a : ℕ) (is_
           caller ts h.typed e some) (subst (λ k. suc k < 16) at small) (gives_of p h.frame.method) wordless refl typed))
 
   -- to what waits: nothing goes over
-  to_waits : (P : List Machine_task → Type 0) → ((ms : List Machine_task) (ts : List Task) → P ms → Alike ms ts → (h : At_hand p m) →
+  to_waits : (P : List Machine_task → Type 0) → ((ms : List Machine_task) (ts : List Task) → P ms → Alike ms ts → (h : CurrentFrame p m) →
       after h ts ≡ record (past h) { tasks = ts }) → P (below_first m.stack.tasks) → DoesIn p refused i m (with_tasks (below_first m.stack.tasks) mid)
   to_waits P waits has = by_return (λ us. P (below_first us)) (λ us. with_tasks (below_first us) mid) has (λ h f ms top same met last typed has.
       let is = waits ms h.below has same h in
@@ -576,46 +576,46 @@ module _ (p : Image) (m : Parts) (refused : List ℕ) (i : Instr) (a : ℕ) (is_
       (λ i. none_above p h.typing (record (past h) { tasks = h.below }) _ i (subst (WellTyped p h.typing) is typed) (omega arith))))
 
   pub return_to_unwinding : IsUnwinding (below_first m.stack.tasks) → DoesIn p refused i m (with_tasks (below_first m.stack.tasks) mid)
-  return_to_unwinding = to_waits IsUnwinding (λ ms ts has same h. go h (tops A_leave ms has) same)
+  return_to_unwinding = to_waits IsUnwinding (λ ms ts has same h. go h (top_matches A_leave ms has) same)
     where
-      go : (h : At_hand p m) {ms : List Machine_task} {ts : List Task} → Tops A_leave ms → Alike ms ts → after h ts ≡ record (past h) { tasks = ts }
+      go : (h : CurrentFrame p m) {ms : List Machine_task} {ts : List Task} → TopMatches A_leave ms → Alike ms ts → after h ts ≡ record (past h) { tasks = ts }
       go h (leave_on_top code ms) (both_unwind _ c _ ts _ _ _) = refl
 
   pub return_to_dispatch : (g : Gives) (d : Machine_dispatch) → gives_of p (method_here m.stack.tasks) ≡ g → ending_here (below_first m.stack.tasks) ≡ Some d
-      → DoesIn p refused i m (with_tasks (Ends (heard (told_by g (register_here m.stack.tasks a)) d) ∷ below_first (below_first m.stack.tasks)) mid)
+      → DoesIn p refused i m (with_tasks (Ends (observed (reported_by g (register_here m.stack.tasks a)) d) ∷ below_first (below_first m.stack.tasks)) mid)
   return_to_dispatch g d gives ending = by_return (λ us. ending_here (below_first us) ≡ Some d)
-      (λ us. with_tasks (Ends (heard answer d) ∷ below_first (below_first us)) mid) ending (λ h f ms top same met last typed has.
-      let told = ap (λ k. told_by k (register_here m.stack.tasks a)) (sym gives ∙ ap (gives_of p) (method_is p m h))
-      ∙ told_same p m h (gives_of p h.frame.method) a met in
-      go h f ms h.below top (tops An_end ms (ending_of ms has)) same has told typed)
+      (λ us. with_tasks (Ends (observed answer d) ∷ below_first (below_first us)) mid) ending (λ h f ms top same met last typed has.
+      let reported = ap (λ k. reported_by k (register_here m.stack.tasks a)) (sym gives ∙ ap (gives_of p) (method_is p m h))
+      ∙ reported_same p m h (gives_of p h.frame.method) a met in
+      go h f ms h.below top (top_matches An_end ms (ending_of ms has)) same has reported typed)
     where
       answer : ℤ
-      answer = told_by g (register_here m.stack.tasks a)
+      answer = reported_by g (register_here m.stack.tasks a)
 
-      go : (h : At_hand p m) (f : Machine_frame) (ms : List Machine_task) (ts : List Task) → Top mid (past h) h.frame ts f ms → Tops An_end ms →
-          Alike ms ts → ending_here ms ≡ Some d → answer ≡ told_answer (gives_of p h.frame.method) h.frame a → WellTyped p h.typing (after h ts) →
-          Agrees p (with_tasks (Ends (heard answer d) ∷ below_first ms) mid) (after h ts)
-      go h f _ _ top (end_on_top x ms) (both_end _ e _ ts same below _) is told typed =
+      go : (h : CurrentFrame p m) (f : Machine_frame) (ms : List Machine_task) (ts : List Task) → Top mid (past h) h.frame ts f ms → TopMatches An_end ms →
+          Alike ms ts → ending_here ms ≡ Some d → answer ≡ reported_answer (gives_of p h.frame.method) h.frame a → WellTyped p h.typing (after h ts) →
+          Agrees p (with_tasks (Ends (observed answer d) ∷ below_first ms) mid) (after h ts)
+      go h f _ _ top (end_on_top x ms) (both_end _ e _ ts same below _) is reported typed =
           let at : x ≡ d = cc in
           let waits = to_waiting p mid h.typing (past h) h.frame (agree h) f a (Ends x ∷ ms) (Dispatched e ∷ ts) top
           (λ i. none_above p h.typing (after h (Dispatched e ∷ ts)) _ i typed (omega arith)) in
-          redispatched p mid (past h) x (heard answer d) ms e _ ts (heard_same answer _ d e told (subst (λ x. SameDispatch x e) at same)) waits
+          redispatched p mid (past h) x (observed answer d) ms e _ ts (observed_same answer _ d e reported (subst (λ x. SameDispatch x e) at same)) waits
 
   pub return_to_end : (es : Machine_items) → IsEnding (below_first (below_first m.stack.tasks)) →
       IsTrapped (below_first m.stack.tasks) → m.entries ≡ record es { items = Is_mark ∷ es.items } → DoesIn p refused i m
       (served (register_here m.stack.tasks a) (record (with_tasks (below_first (below_first m.stack.tasks)) mid) { entries = es }))
   return_to_end es ending trapped marked = by_return (λ us. IsTrapped (below_first us) × IsEnding (below_first (below_first us)))
       (λ us. served (register_here us a) (record (with_tasks (below_first (below_first us)) mid) { entries = es })) (trapped, ending)
-      (λ h f ms top same met last typed has. go h f ms h.below top h.top (tops A_last_trap ms has) same met last typed)
+      (λ h f ms top same met last typed has. go h f ms h.below top h.top (top_matches A_last_trap ms has) same met last typed)
     where
       -- the dispatch on top, and the machine with it
-      Ended : At_hand p m → Machine_frame → Machine_dispatch → List Machine_task → Dispatch → List Task → Type 0
+      Ended : CurrentFrame p m → Machine_frame → Machine_dispatch → List Machine_task → Dispatch → List Task → Type 0
       Ended h f x ms d ts = Top mid (past h) h.frame (Trapped ∷ Dispatched d ∷ ts) f (Is_trap ∷ Ends x ∷ ms) → h.state.tasks ≡ Run h.frame ∷ Trapped
           ∷ Dispatched d ∷ ts → AllTrue (result_needs p h.frame (Trapped ∷ Dispatched d ∷ ts) h.state (gives_of p h.frame.method) a) → AllTrue (end_needs
           p h.frame (Trapped ∷ Dispatched d ∷ ts) h.state (Trapped ∷ Dispatched d ∷ ts)) → WellTyped p h.typing (after h (Trapped ∷ Dispatched d ∷ ts)) →
           Agrees p (served (slice_index_or f.registers a null) (record (with_tasks (Ends x ∷ ms) mid) { entries = es })) (after h (Trapped ∷ Dispatched d ∷ ts))
 
-      plainly : (h : At_hand p m) (f : Machine_frame) (x : Machine_dispatch) (q : Place) → AcceptsNot x → Ended h f x [] (dispatch_of q x) []
+      plainly : (h : CurrentFrame p m) (f : Machine_frame) (x : Machine_dispatch) (q : Place) → AcceptsNot x → Ended h f x [] (dispatch_of q x) []
       plainly h f x q plain top tasks met last typed =
           let is = returned_plain p h.frame (past h) (gives_of p h.frame.method) a [] q x plain in
           let shut = closing p h.typing _ (dispatch_of q (ends.served x)) (subst (λ v. WellTyped p h.typing v) is typed) refl in
@@ -625,37 +625,37 @@ module _ (p : Image) (m : Parts) (refused : List ℕ) (i : Instr) (a : ℕ) (is_
           (sym (opened_plain (slice_index_or f.registers a null) x [] m.clients plain))
           (ended p mid es (past h) (ends.served x) (dispatch_of q (ends.served x)) (agree h) marked (q, refl) shut))
 
-      opens : (h : At_hand p m) (f : Machine_frame) (y : Subject) (c : ℕ) (q : Place) →
-          Ended h f (Of_one_served y c stages.Accepts) [] (Of_server (seat_of q y) c Accepts) []
+      opens : (h : CurrentFrame p m) (f : Machine_frame) (y : Subject) (c : ℕ) (q : Place) →
+          Ended h f (Of_one_served y c stages.Accepts) [] (Of_server (owned_object_of q y) c Accepts) []
       opens h f y c q top tasks met last typed =
           let n = slice_index_or f.registers a null in
           let from = Register 2 a in
           let over = ended_alike p h.frame h.state.cells in
-          let g = gives_session p h.typing h.state h.frame (seat_of q y) c [] h.typed tasks in
-          let owned = subst (λ g. AllTrue (result_needs p h.frame (Trapped ∷ Dispatched (Of_server (seat_of q y) c Accepts) ∷ []) h.state g a)) g.gives met in
+          let g = gives_session p h.typing h.state h.frame (owned_object_of q y) c [] h.typed tasks in
+          let owned = subst (λ g. AllTrue (result_needs p h.frame (Trapped ∷ Dispatched (Of_server (owned_object_of q y) c Accepts) ∷ []) h.state g a)) g.gives met in
           let wordless : word h.frame a ≡ None = no_word _ owned.0 in
-          let tidy = over.tidy h.typed.good.tidy in
+          let no_duplicates = over.no_duplicates h.typed.good.no_duplicates in
           let still = steady_ended p h.frame h.state.cells in
           let fit = fit_steady p h.state.clients h.state.cells (past h).cells still h.kept.fit in
           let stage = subst (λ us. TasksKept p h.state.clients h.state.cells us) tasks h.kept.stage in
           let connects : StageKept p h.state.clients (past h).cells (subject_of y) c Accepts =
-          tasks_steady p h.state.clients h.state.cells (past h).cells still (Dispatched (Of_server (seat_of q y) c Accepts) ∷ []) stage in
+          tasks_steady p h.state.clients h.state.cells (past h).cells still (Dispatched (Of_server (owned_object_of q y) c Accepts) ∷ []) stage in
           let there = over.named_so y.number ∙ g.lives in
           let few = h.formed.header.cells in
           let shows : Represents n None (held (past h).cells from) = subst (λ w. Represents n w (held (past h).cells from)) wordless (register_shows mid (past
-          h) h.frame (Trapped ∷ Dispatched (Of_server (seat_of q y) c Accepts) ∷ []) f (Is_trap ∷ Ends (Of_one_served y c stages.Accepts) ∷ []) top a) in
-          let small = owned_number p mid (past h) few (agree h) from n g.thing g.object tidy
+          h) h.frame (Trapped ∷ Dispatched (Of_server (owned_object_of q y) c Accepts) ∷ []) f (Is_trap ∷ Ends (Of_one_served y c stages.Accepts) ∷ []) top a) in
+          let small = owned_number p mid (past h) few (agree h) from n g.thing g.object no_duplicates
           (ap is_some (over.held_so from) ∙ owned.1.0) (ap (is_thing p g.thing) (over.held_so from) ∙ owned.1.1.0) shows in
           let empty : held (past h).cells (Elsewhere (Session y.number c)) ≡ None = over.held_so (Elsewhere (Session y.number c)) ∙ free _ last.1.0 in
-          accepts p few mid (past h) tidy fit (agree h) y q c there (lives_within p mid (past h) (agree h) (subject_of y) there refl) connects 2 a n
-          (omega arith) shows empty es marked (closing p h.typing _ (Of_server (seat_of q y) c Accepted) typed refl)
+          accepts p few mid (past h) no_duplicates fit (agree h) y q c there (lives_within p mid (past h) (agree h) (subject_of y) there refl) connects 2 a n
+          (omega arith) shows empty es marked (closing p h.typing _ (Of_server (owned_object_of q y) c Accepted) typed refl)
 
-      by_kind : (h : At_hand p m) (f : Machine_frame) (x : Machine_dispatch) (q : Place) → Accepting x → Ended h f x [] (dispatch_of q x) []
+      by_kind : (h : CurrentFrame p m) (f : Machine_frame) (x : Machine_dispatch) (q : Place) → Accepting x → Ended h f x [] (dispatch_of q x) []
       by_kind h f x q (inl plain) = plainly h f x q plain
       by_kind h f x q (inr y) = subst (λ x. Ended h f x [] (dispatch_of q x) []) (sym y.2) (opens h f y.0 y.1 q)
 
-      go : (h : At_hand p m) (f : Machine_frame) (ms : List Machine_task) (ts : List Task) → Top mid (past h) h.frame ts f ms →
-          h.state.tasks ≡ Run h.frame ∷ ts → Tops A_last_trap ms → Alike ms ts → AllTrue (result_needs p h.frame ts h.state (gives_of p h.frame.method) a) →
+      go : (h : CurrentFrame p m) (f : Machine_frame) (ms : List Machine_task) (ts : List Task) → Top mid (past h) h.frame ts f ms →
+          h.state.tasks ≡ Run h.frame ∷ ts → TopMatches A_last_trap ms → Alike ms ts → AllTrue (result_needs p h.frame ts h.state (gives_of p h.frame.method) a) →
           AllTrue (end_needs p h.frame ts h.state ts) → WellTyped p h.typing (after h ts) →
           Agrees p (served (slice_index_or f.registers a null) (record (with_tasks (below_first ms) mid) { entries = es })) (after h ts)
       go h f _ _ top tasks (last_trap_on_top x ms) (both_trapped _ _ _ (both_end _ d _ ts same below _)) met last typed =
@@ -668,24 +668,24 @@ module _ (p : Image) (m : Parts) (refused : List ℕ) (i : Instr) (a : ℕ) (is_
 can_plain : (n : ℕ) (x : Machine_dispatch) (us : List Machine_task) → AcceptsNot x → CanServe n (Ends x ∷ us)
 can_plain n x us plain = grind arith
 
-module _ (p : Image) (m : Parts) (h : At_hand p m) (a : ℕ) where
+module _ (p : Image) (m : Parts) (h : CurrentFrame p m) (a : ℕ) where
   abbrev Can : Machine_frame → Machine_dispatch → List Machine_task → Dispatch → List Task → Type 0
   Can f x ms d ts = Top m h.state h.frame (Trapped ∷ Dispatched d ∷ ts) f (Is_trap ∷ Ends x ∷ ms) → h.state.tasks ≡ Run h.frame ∷ Trapped ∷ Dispatched d ∷ ts →
       AllTrue (result_needs p h.frame (Trapped ∷ Dispatched d ∷ ts) h.state (gives_of p h.frame.method) a) →
       CanServe (slice_index_or f.registers a null) (Ends x ∷ ms)
 
   accepts_one : (f : Machine_frame) (y : Subject) (c : ℕ) (ms : List Machine_task) (q : Place) (ts : List Task) →
-      Can f (Of_one_served y c stages.Accepts) ms (Of_server (seat_of q y) c Accepts) ts
+      Can f (Of_one_served y c stages.Accepts) ms (Of_server (owned_object_of q y) c Accepts) ts
   accepts_one f y c ms q ts top tasks met =
       let d = suc (length ts) in
       let from = Register (suc d) a in
       let n = slice_index_or f.registers a null in
-      let g = gives_session p h.typing h.state h.frame (seat_of q y) c ts h.typed tasks in
-      let owned = subst (λ g. AllTrue (result_needs p h.frame (Trapped ∷ Dispatched (Of_server (seat_of q y) c Accepts) ∷ ts) h.state g a)) g.gives met in
+      let g = gives_session p h.typing h.state h.frame (owned_object_of q y) c ts h.typed tasks in
+      let owned = subst (λ g. AllTrue (result_needs p h.frame (Trapped ∷ Dispatched (Of_server (owned_object_of q y) c Accepts) ∷ ts) h.state g a)) g.gives met in
       let wordless : word h.frame a ≡ None = no_word _ owned.0 in
       let shows : Represents n None (held h.state.cells from) = subst (λ w. Represents n w (held h.state.cells from)) wordless (register_shows m h.state h.frame
-      (Trapped ∷ Dispatched (Of_server (seat_of q y) c Accepts) ∷ ts) f (Is_trap ∷ Ends (Of_one_served y c stages.Accepts) ∷ ms) top a) in
-      let small = owned_number p m h.state h.formed.header.cells h.agrees from n g.thing g.object h.typed.good.tidy owned.1.0 owned.1.1.0 shows in
+      (Trapped ∷ Dispatched (Of_server (owned_object_of q y) c Accepts) ∷ ts) f (Is_trap ∷ Ends (Of_one_served y c stages.Accepts) ∷ ms) top a) in
+      let small = owned_number p m h.state h.formed.header.cells h.agrees from n g.thing g.object h.typed.good.no_duplicates owned.1.0 owned.1.1.0 shows in
       let connects = subst (λ us. TasksKept p h.state.clients h.state.cells us) tasks h.kept.stage in
       (connecting_below h.state.cells h.state.clients m.clients h.agrees.services.clients c y.number connects.0, omega (arith, small))
 
@@ -697,10 +697,10 @@ module _ (p : Image) (m : Parts) (h : At_hand p m) (a : ℕ) where
       IsEnding (below_first (below_first m.stack.tasks)) → CanServe (register_here m.stack.tasks a) (below_first (below_first m.stack.tasks))
   can_give met trapped ending =
       by_top p m h (λ us. (IsTrapped (below_first us) × IsEnding (below_first (below_first us))) → CanServe (register_here us a) (below_first (below_first us)))
-      (λ f ms top has. go f ms h.below top h.top (tops A_last_trap ms has) (alike ms h.below top.below) met) (trapped, ending)
+      (λ f ms top has. go f ms h.below top h.top (top_matches A_last_trap ms has) (alike ms h.below top.below) met) (trapped, ending)
     where
       go : (f : Machine_frame) (ms : List Machine_task) (ts : List Task) → Top m h.state h.frame ts f ms →
-          h.state.tasks ≡ Run h.frame ∷ ts → Tops A_last_trap ms → Alike ms ts → AllTrue (result_needs p h.frame ts h.state (gives_of p h.frame.method) a) →
+          h.state.tasks ≡ Run h.frame ∷ ts → TopMatches A_last_trap ms → Alike ms ts → AllTrue (result_needs p h.frame ts h.state (gives_of p h.frame.method) a) →
           CanServe (slice_index_or f.registers a null) (below_first ms)
       go f _ _ top tasks (last_trap_on_top x ms) (both_trapped _ _ _ (both_end _ d _ ts same below _)) met =
           (subst (λ e. Can f x ms e ts) same.1 (can_by_kind f x ms same.0 ts (accepting_or x))) top tasks met
@@ -709,6 +709,6 @@ pub can_serve : (p : Image) (m : Parts) (i : Instr) (a : ℕ) → IsNext p i m �
     IsEnding (below_first (below_first m.stack.tasks)) → CanServe (register_here m.stack.tasks a) (below_first (below_first m.stack.tasks))
 can_serve p m i a next is trapped ending =
     let k = counting next.counts m in
-    let h = at_hand p k next.stands next.runs in
+    let h = has_task p k next.stands next.runs in
     let n = return_needs p m i a next is in
     can_give p k h a (all_parts (result_needs p h.frame h.below (counted i (at_step h.state)) (gives_of p h.frame.method) a) _ n).0 trapped ending

@@ -11,8 +11,8 @@ use Rattle.aom_image.specs.Views.{action_in, arguments_of, gives_of, instr_at, i
 use Rattle.aom_instructions.specs.Table.{action_of}
 use Rattle.aom_instructions.specs.declared.action.Action.{Action}
 use Rattle.aom_instructions.specs.declared.action.Action.TheVariants as action
-use Rattle.aom_instructions.specs.declared.action.Manner.{Manner}
-use Rattle.aom_instructions.specs.declared.action.Manner.TheVariants.{Plain, Trapped as Under_trap}
+use Rattle.aom_instructions.specs.declared.action.CallMode.{CallMode}
+use Rattle.aom_instructions.specs.declared.action.CallMode.TheVariants.{Plain, Trapped as Under_trap}
 use Rattle.aom_instructions.specs.declared.instr.Instr.{Instr}
 use Rattle.aom_instructions.specs.declared.instr.Target.{Target}
 use Rattle.aom_image.specs.declared.method.Argument.{Argument}
@@ -23,44 +23,44 @@ use Rattle.aom_image.specs.declared.method.Thing.{Thing}
 use Rattle.aom_image.specs.declared.method.Thing.TheVariants.{Object as An_object_of, Message}
 use Rattle.aom_roles.specs.Tests.{AllTrue}
 use Rattle.aom_roles.specs.Roles.{is_construct}
-use Rattle.aom_machine_instructions.proofs.ClassesLemmas.{of_method}
-use Rattle.aom_rules.specs.Calls.{each_argument, rule_target}
-use Rattle.aom_rules.specs.Cleanup.{entry_of}
-use Rattle.aom_shape.specs.Entries.{with_entry}
-use Rattle.aom_shape.specs.Kinds.{no_entry, register, set_register}
-use Rattle.aom_rules.specs.Rules.{flows, rule_needs}
-use Rattle.aom_shape.specs.Shape.{Shape}
+use Rattle.aom_machine_instructions.proofs.LinkConditionsLemmas.{of_method}
+use Rattle.aom_typing_rules.specs.Calls.{each_argument, rule_target}
+use Rattle.aom_typing_rules.specs.Cleanup.{entry_of}
+use Rattle.aom_abstract_state.specs.Entries.{with_entry}
+use Rattle.aom_abstract_state.specs.Kinds.{no_entry, register, set_register}
+use Rattle.aom_typing_rules.specs.Rules.{flows, rule_needs}
+use Rattle.aom_abstract_state.specs.AbstractState.{AbstractState}
 use Rattle.aom_roles.specs.Tables.{at}
-use Rattle.aom_rules.specs.Typing.{AllLead, Leads, Typing, shape_at}
-use Rattle.aom_shape.specs.declared.kind.CleanupEntry.{CleanupEntry}
-use Rattle.aom_shape.specs.declared.kind.CleanupEntry.TheVariants.{Operation}
-use Rattle.aom_shape.specs.declared.kind.Kind.{Kind}
-use Rattle.aom_shape.specs.declared.kind.Kind.TheVariants.{Maybe, Null, Own}
-use Rattle.aom_typings.specs.Strongest.{IsStrongest}
-use Rattle.aom_typings.specs.Calls.{Among, MayCall, called_for, callees, cancels, destructors, object_class, thing_class}
-use Rattle.aom_typings.specs.Charges.{A_call, A_cancel, A_destruction, An_operation, Charge, charge_of}
-use Rattle.aom_typings.specs.Heights.{CallsOver, IsCall, StandsWith}
-use Rattle.aom_typings.specs.Layers.{MayRun}
+use Rattle.aom_typing_rules.specs.Typing.{AllLead, Leads, Typing, shape_at}
+use Rattle.aom_abstract_state.specs.declared.kind.CleanupEntry.{CleanupEntry}
+use Rattle.aom_abstract_state.specs.declared.kind.CleanupEntry.TheVariants.{Operation}
+use Rattle.aom_abstract_state.specs.declared.kind.Kind.{Kind}
+use Rattle.aom_abstract_state.specs.declared.kind.Kind.TheVariants.{Maybe, Null, Own}
+use Rattle.aom_static_bounds.specs.Strongest.{IsStrongest}
+use Rattle.aom_static_bounds.specs.Calls.{Among, MayCall, called_for, callees, cancels, destructors, object_class, thing_class}
+use Rattle.aom_static_bounds.specs.Charges.{A_call, A_cancel, A_destruction, An_operation, Charge, charge_of}
+use Rattle.aom_static_bounds.specs.Heights.{CallsOver, IsCall, StandsWith}
+use Rattle.aom_static_bounds.specs.Layers.{MayRun}
 use Rattle.aom_machine_instructions.proofs.SafetyLemmas.{all_parts, body_leaves, body_quiet, cancel_family, cancel_quiet, destroys, ended_alike, held_served}
 use Rattle.aom_machine_instructions.proofs.SafetyLemmas.{held_set_word, length_forms, length_objects, none_left, only_then, redeemed_by_alike}
-use Rattle.aom_machine_instructions.proofs.SafetyLemmas.{rerequested_alike, resessioned_alike, returnable}
+use Rattle.aom_machine_instructions.proofs.SafetyLemmas.{request_updated_alike, session_updated_alike, returnable}
 use Rattle.aom_machine_instructions.proofs.SemanticsLemmas.{held_moved, held_without, same_place_refl}
-use Rattle.aom_machine_instructions.proofs.TypingsLemmas.{cancel_among, kept_in_line, run_among, runs_among, stands_among}
+use Rattle.aom_machine_instructions.proofs.StaticBoundsLemmas.{cancel_among, kept_in_line, run_among, runs_among, stands_among}
 use Rattle.aom_machine_instructions.proofs.RolesLemmas.{itself}
 use Rattle.aom_semantics.specs.Calls.{ended_well, accepted_cells, below_top, entered, given_cells, over_caller, over_trap, passed_cells}
 use Rattle.aom_semantics.specs.Calls.{received, result_cells, result_register, returned, run_by, target_view}
 use Rattle.aom_safety.specs.Claims.{objects}
 use Rattle.aom_semantics.specs.Cleanup.{operation_frame, top_place}
-use Rattle.aom_classes.specs.Roles.{destructor_of}
+use Rattle.aom_link_conditions.specs.Roles.{destructor_of}
 use Rattle.aom_semantics.specs.Destruction.{destructor_frame, begun, begun_by, destructed, line_on, next_destructor}
 use Rattle.aom_semantics.specs.Effects.{Handed, Replied, Calls, Cancels, Carried, Counts, Destroys, Destroys_last, Effect, Goes_on, Jumps, Leaves}
 use Rattle.aom_semantics.specs.Effects.{Made, Operates, Popped, Popped_operation, Pushed, Pushed_operation, Repeats, Requested, Returns, Same, Sets_trap}
 use Rattle.aom_semantics.specs.Effects.{Spot, Update, Written, applied, cells_after, items_after, spot_place, with_words, Sessioned}
 use Rattle.aom_safety.specs.Laws.{IsWired}
 use Rattle.aom_safety.specs.Steps.{Fits as May, FitsUpdate}
-use Rattle.aom_semantics.specs.Places.{Session, Place, Elsewhere, Cell, Entry, Going, Object, Register, Sight, held, moved, same_place, seen, without}
+use Rattle.aom_semantics.specs.Places.{Session, Place, Elsewhere, Cell, Entry, Going, Object, Register, CellView, held, moved, same_place, seen, without}
 use Rattle.aom_semantics.specs.State.{Of_server, Dispatch, Accepts, A_mark, An_object, An_operation, Choice, Destroy, Dispatched, Frame}
-use Rattle.aom_semantics.specs.State.{Home, Inside, Item, Run, State, Task, Trapped, Unwind, field_place, frame_as, next, set_word}
+use Rattle.aom_semantics.specs.State.{Receiver, Inside, Item, Run, State, Task, Trapped, Unwind, field_place, frame_as, next, set_word}
 use Rattle.aom_safety.specs.WellTyped.{AllUndo, Fits, IsUndo}
 use Rattle.aom_semantics.specs.Words.{here, stored}
 use Rattle.aom_machine_state.specs.Room.{Destructs, IsUnder, NoClosing, below_height, entries_in, may_push}
@@ -69,11 +69,11 @@ use Rattle.aom_machine_instructions.proofs.MachineStateLemmas.{held_apart, item_
 use Rattle.aom_machine_instructions.proofs.MachineStateLemmas.{top_under}
 use Rattle.aom_semantics.specs.Requests.{begun_cells, cancel_method, cancelling, ended_cells, on_request, own_request}
 use Rattle.aom_semantics.specs.Tokens.{redeemed_by, token_of}
-use Rattle.aom_machine_instructions.proofs.FamiliesLemmas.{body_runs}
+use Rattle.aom_machine_instructions.proofs.InheritanceLemmas.{body_runs}
 use Rattle.aom_semantics.specs.Servers.{is_server}
 
 -- what runs as an object goes may run as one of the class does that its register's kind tells
-destructs_as : (p : Image) (h : Sight) (o : Object) (k : Kind) (m : ℕ) → Fits p h (Some o) k → Destructs p (Some o) m → Among m (destructors p (object_class k))
+destructs_as : (p : Image) (h : CellView) (o : Object) (k : Kind) (m : ℕ) → Fits p h (Some o) k → Destructs p (Some o) m → Among m (destructors p (object_class k))
 destructs_as p h o (Own t a) m fits e = stands_among p o.thing t m fits.0 e
 destructs_as p h o (Maybe t a) m fits e = stands_among p o.thing t m fits.0 e
 destructs_as p h o _ m fits e = absurd (assumption tt)
@@ -94,18 +94,18 @@ pushes_from x quiet' leave leave' q l may = grind arith
 pushes_where : (quiet leave : Bool) → leave ≡ true → (not quiet || leave) ≡ true
 pushes_where quiet leave e = grind arith
 
-pushes_loud : (quiet leave : Bool) → not quiet ≡ true → (not quiet || leave) ≡ true
-pushes_loud quiet leave e = grind arith
+pushes_nonquiet : (quiet leave : Bool) → not quiet ≡ true → (not quiet || leave) ≡ true
+pushes_nonquiet quiet leave e = grind arith
 
 pushes_none : (quiet leave : Bool) → quiet ≡ true → leave ≡ false → (not quiet || leave) ≡ true → ⊥
 pushes_none x leave q l may = grind arith
 
 -- a field's place is no entry
-field_apart : (home : Home) (f k : ℕ) → same_place (field_place home f) (Entry k) ≡ false
+field_apart : (receiver : Receiver) (f k : ℕ) → same_place (field_place receiver f) (Entry k) ≡ false
 field_apart x f k = grind arith
 
 -- nor one where a cell goes
-field_stays : (home : Home) (f k : ℕ) → same_place (field_place home f) (Going k) ≡ false
+field_stays : (receiver : Receiver) (f k : ℕ) → same_place (field_place receiver f) (Going k) ≡ false
 field_stays x f k = grind arith
 
 pub entry_apart : (j k : ℕ) → k < j → same_place (Entry j) (Entry k) ≡ false
@@ -133,7 +133,7 @@ register_apart : (d a : ℕ) (e : Place) → IsDealt e → same_place (Register 
 register_apart d a e dealt = grind arith
 
 -- what is dealt with is as it was
-stored_same : (cs : List Cell) (home : Home) (w : ℕ) (v : ℤ) (e : Place) → held (stored cs home w v) e ≡ held cs e
+stored_same : (cs : List Cell) (receiver : Receiver) (w : ℕ) (v : ℤ) (e : Place) → held (stored cs receiver w v) e ≡ held cs e
 stored_same cs x w v e = grind (arith, nat_tests, held_set_word cs)
 
 passed_same : (p : Image) (fr : Frame) (ts : List Task) (s : State) (d : ℕ) (xs : List Argument) (first to : ℕ) (cs : List Cell) (e : Place) →
@@ -167,7 +167,7 @@ LineGoes p cs m (Destroy ∷ below) = NextGoes p cs m below
 LineGoes p cs m _ = Unit {0}
 
 -- what an instruction is charged for, by what it does
-call_charged : (i : Instr) (how : Manner) (target : Target) (m first x : ℕ) → action_of i ≡ action.Call how target m first x → charge_of i ≡ A_call m
+call_charged : (i : Instr) (how : CallMode) (target : Target) (m first x : ℕ) → action_of i ≡ action.Call how target m first x → charge_of i ≡ A_call m
 call_charged i how target m first x is = grind arith
 
 operation_charged : (i : Instr) (a m : ℕ) → action_of i ≡ action.PushOperation a m → charge_of i ≡ An_operation m
@@ -239,7 +239,7 @@ module _ (p : Image) (t : Typing) (depth heights : ℕ → ℕ) (tables : Tables
       (λ may. absurd (pushes_none (is_quiet p m) (leaves p m) undo.quiet undo.leaves may)) (popped p depth heights cs (An_operation m w) items ts low room)
 
   -- what an instruction calls is less deep than its method
-  pub may_call : (fr : Frame) (sh : Shape) → shape_at t fr.method fr.place ≡ Some sh →
+  pub may_call : (fr : Frame) (sh : AbstractState) → shape_at t fr.method fr.place ≡ Some sh →
       (i : Instr) (k : ℕ) → instr_at p fr.method fr.place ≡ Some i → Among k (callees p fr.method sh i) → depth k < depth fr.method
   may_call fr sh there i k stands calls = tables.less fr.method k (record {
     states = at [] t fr.method;
@@ -250,7 +250,7 @@ module _ (p : Image) (t : Typing) (depth heights : ℕ → ℕ) (tables : Tables
 
   -- ---- a method's move
 
-  module _ (c : Choice) (fr : Frame) (ts : List Task) (s : State) (undos : AllUndo p s.items) (at_hand : s.tasks ≡ Run fr ∷ ts)
+  module _ (c : Choice) (fr : Frame) (ts : List Task) (s : State) (undo_operations : AllUndo p s.items) (has_task : s.tasks ≡ Run fr ∷ ts)
       (h : Stands_here p t s fr ts) (unheld : held s.cells (Going (length (Run fr ∷ ts))) ≡ None) (w : Roomy p depth heights s.cells s.items (Run fr ∷ ts))
       (line : LineGoes p s.cells fr.method ts) where
     abbrev R : State → Type 0
@@ -261,7 +261,7 @@ module _ (p : Image) (t : Typing) (depth heights : ℕ → ℕ) (tables : Tables
     After u = Roomy p depth heights (cells_after p fr ts s u) (items_after u s.items) (Run fr ∷ ts)
 
     given : R s
-    given = subst (λ l. Roomy p depth heights s.cells s.items l) (sym at_hand) w
+    given = subst (λ l. Roomy p depth heights s.cells s.items l) (sym has_task) w
 
     -- all the items, of which the last ones are the method's
     high : length s.items ≡ length (objects h.shape.entries h.below)
@@ -331,8 +331,8 @@ module _ (p : Image) (t : Typing) (depth heights : ℕ → ℕ) (tables : Tables
         Ruled i → R (applied p fr ts s (Sets_trap target m first))
     trap_room i target m first x stands is r =
         let cells' = given_cells p fr ts s (over_trap p fr ts s) m first in
-        let loud : not (is_quiet p fr.method) ≡ true = (subst Ruled (trap_is i target m first x is) r).0 in
-        let may = pushes_loud (is_quiet p fr.method) (leaves p fr.method) loud in
+        let nonquiet : not (is_quiet p fr.method) ≡ true = (subst Ruled (trap_is i target m first x is) r).0 in
+        let may = pushes_nonquiet (is_quiet p fr.method) (leaves p fr.method) nonquiet in
         let runs = body_runs p m (target_view p fr ts s target (method_class p m)) in
         let charge = call_charged i Under_trap target m first x is in
         begins p depth heights cells' (A_mark ∷ s.items) (entered p fr ts s target m first (length (A_mark ∷ s.items))) (Trapped ∷ Run fr ∷ ts) refl
@@ -377,8 +377,8 @@ module _ (p : Image) (t : Typing) (depth heights : ℕ → ℕ) (tables : Tables
 
     -- the next destructor of a line begins, or the cell goes next
     line_room : (below : List Task) → NextGoes p s.cells fr.method below → (gives_of p fr.method ≡ Nothing → length s.items ≡ fr.height) →
-        Roomy p depth heights s.cells s.items (Destroy ∷ below) → Roomy p depth heights over.cells s.items (line_on p fr.method fr.home fr.height below)
-    line_room below goes ended v = on fr.home
+        Roomy p depth heights s.cells s.items (Destroy ∷ below) → Roomy p depth heights over.cells s.items (line_on p fr.method fr.receiver fr.height below)
+    line_room below goes ended v = on fr.receiver
       where
         there : Roomy p depth heights over.cells s.items (Destroy ∷ below)
         there = again over.cells s.items (Destroy ∷ below) (λ e dealt. refl) v
@@ -390,7 +390,7 @@ module _ (p : Image) (t : Typing) (depth heights : ℕ → ℕ) (tables : Tables
             begins p depth heights over.cells s.items (destructor_frame p m o (length below) fr.height) (Destroy ∷ below) (sym (ended goes.gives))
             (v.1.0 m next.0) (λ may. absurd (pushes_none (is_quiet p m) (leaves p m) next.1 next.2 may)) there
 
-        on : (home : Home) → Roomy p depth heights over.cells s.items (line_on p fr.method home fr.height below)
+        on : (receiver : Receiver) → Roomy p depth heights over.cells s.items (line_on p fr.method receiver fr.height below)
         on (Inside o from) = by o (next_destructor p fr.method) refl
         on _ = there
 
@@ -425,14 +425,14 @@ module _ (p : Image) (t : Typing) (depth heights : ℕ → ℕ) (tables : Tables
         let stays : leaves p m ≡ false = grind (arith, nat_tests, false_given) in
         let among : Among m (cancels p (method_class p fr.method)) =
         subst (λ o. Among m (cancels p o)) (sym its.2) (cancel_among p (Some its.1) m (its.0, its.3, its.4)) in
-        begins p depth heights (begun_cells fr s.cells) s.items (frame_as m fr.home fr.view (length s.items)) (Run fr ∷ ts) refl
+        begins p depth heights (begun_cells fr s.cells) s.items (frame_as m fr.receiver fr.view (length s.items)) (Run fr ∷ ts) refl
         (less_deep i A_cancel m stands (cancel_charged i is) among) (λ may. absurd (pushes_none (is_quiet p m) (leaves p m) quiet stays may))
-        (moves (begun_cells fr s.cells) (λ e dealt. (rerequested_alike s.cells fr.home (on_request cancelling (own_request s.cells fr.home))).held_so e))
+        (moves (begun_cells fr s.cells) (λ e dealt. (request_updated_alike s.cells fr.receiver (on_request cancelling (own_request s.cells fr.receiver))).held_so e))
 
     -- ---- the cleanup stack
 
     -- a push finds room for one entry more
-    pub pushes : (i : Instr) (after : Shape) → instr_at p fr.method fr.place ≡ Some i → leaves p fr.method ≡ true →
+    pub pushes : (i : Instr) (after : AbstractState) → instr_at p fr.method fr.place ≡ Some i → leaves p fr.method ≡ true →
         Leads t fr.method (suc fr.place) after → length after.entries ≡ suc (length h.shape.entries) → suc (entries_in s.items) ≤ 1024
     pushes i after stands leave leads one =
         let more = tables.own fr.method (suc (length h.shape.entries)) (record {
@@ -494,7 +494,7 @@ module _ (p : Image) (t : Typing) (depth heights : ℕ → ℕ) (tables : Tables
     -- ---- the effects
 
     spot_apart : (x : Spot) (e : Place) → IsDealt e → same_place (spot_place p fr ts s x) e ≡ false
-    spot_apart x e dealt = grind (arith, nat_tests, register_apart, field_apart fr.home, field_stays fr.home)
+    spot_apart x e dealt = grind (arith, nat_tests, register_apart, field_apart fr.receiver, field_stays fr.receiver)
 
     made_same : (name x a : ℕ) (e : Place) → IsDealt e → held (cells_after p fr ts s (Made name x a)) e ≡ held s.cells e
     made_same name x a y dealt = grind arith
@@ -511,7 +511,7 @@ module _ (p : Image) (t : Typing) (depth heights : ℕ → ℕ) (tables : Tables
         go _ dealt = absurd (assumption tt)
 
     handed_same : (name a : ℕ) (e : Place) → IsDealt e → held (cells_after p fr ts s (Handed name a)) e ≡ held s.cells e
-    handed_same name a e dealt = grind (arith, nat_tests, rerequested_alike s.cells fr.home)
+    handed_same name a e dealt = grind (arith, nat_tests, request_updated_alike s.cells fr.receiver)
 
     -- after an update, with the method on top
     updated_room : (i : Instr) → instr_at p fr.method fr.place ≡ Some i → Ruled i → Leading i → (u : Update) → FitsUpdate ts s.items i u → After u
@@ -519,9 +519,9 @@ module _ (p : Image) (t : Typing) (depth heights : ℕ → ℕ) (tables : Tables
     updated_room i stands r n (Carried from to) f = moves (cells_after p fr ts s (Carried from to))
         (λ e dealt. held_apart s.cells (spot_place p fr ts s from) (spot_place p fr ts s to) e (spot_apart from e dealt) (spot_apart to e dealt))
     updated_room i stands r n (Made name x a) f = moves (cells_after p fr ts s (Made name x a)) (made_same name x a)
-    updated_room i stands r n (Written x v) f = moves (cells_after p fr ts s (Written x v)) (λ e dealt. stored_same s.cells fr.home x v e)
-    updated_room i stands r n (Requested q) f = moves (cells_after p fr ts s (Requested q)) (λ e dealt. (rerequested_alike s.cells fr.home q).held_so e)
-    updated_room i stands r n (Sessioned b) f = moves (cells_after p fr ts s (Sessioned b)) (λ e dealt. (resessioned_alike s.cells fr.home b).held_so e)
+    updated_room i stands r n (Written x v) f = moves (cells_after p fr ts s (Written x v)) (λ e dealt. stored_same s.cells fr.receiver x v e)
+    updated_room i stands r n (Requested q) f = moves (cells_after p fr ts s (Requested q)) (λ e dealt. (request_updated_alike s.cells fr.receiver q).held_so e)
+    updated_room i stands r n (Sessioned b) f = moves (cells_after p fr ts s (Sessioned b)) (λ e dealt. (session_updated_alike s.cells fr.receiver b).held_so e)
     updated_room i stands r n (Replied a code) f = moves (cells_after p fr ts s (Replied a code)) (replied_same a code)
     updated_room i stands r n (Handed name a) f = moves (cells_after p fr ts s (Handed name a)) (handed_same name a)
     updated_room i stands r n (Pushed a) f =
@@ -565,4 +565,4 @@ module _ (p : Image) (t : Typing) (depth heights : ℕ → ℕ) (tables : Tables
     acts_room i stands r n (Destroys_last o) f = clears s.cells
         (below_top s.items) o (Run fr ∷ ts) f.2 unheld tt (low_below (subst Ruled f.0 r).0) (subst (λ is. Roomy p depth heights s.cells is (Run fr ∷ ts)) f.1 w)
     acts_room i stands r n (Operates m v) f = undoes s.cells (below_top s.items) m v (Run fr ∷ ts)
-        (subst (λ is. AllUndo p is) f.1 undos).0 (low_below (subst Ruled f.0 r).0) (subst (λ is. Roomy p depth heights s.cells is (Run fr ∷ ts)) f.1 w)
+        (subst (λ is. AllUndo p is) f.1 undo_operations).0 (low_below (subst Ruled f.0 r).0) (subst (λ is. Roomy p depth heights s.cells is (Run fr ∷ ts)) f.1 w)

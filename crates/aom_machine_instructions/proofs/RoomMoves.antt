@@ -11,18 +11,18 @@ use Rattle.aom_image.specs.Views.{gives_of, instr_at}
 use Rattle.aom_instructions.specs.declared.instr.Instr.{Instr}
 use Rattle.aom_image.specs.declared.method.Gives.{Gives}
 use Rattle.aom_image.specs.declared.method.Gives.TheVariants.{Nothing}
-use Rattle.aom_rules.specs.Rules.{flows, rule_needs}
-use Rattle.aom_shape.specs.Shape.{Shape}
+use Rattle.aom_typing_rules.specs.Rules.{flows, rule_needs}
+use Rattle.aom_abstract_state.specs.AbstractState.{AbstractState}
 use Rattle.aom_roles.specs.Tables.{at}
-use Rattle.aom_rules.specs.Typing.{AllLead, IsTyped, Typing}
-use Rattle.aom_typings.specs.Strongest.{IsStrongest}
-use Rattle.aom_typings.specs.Depths.{HasDepths}
-use Rattle.aom_typings.specs.Heights.{HasHeights}
-use Rattle.aom_typings.specs.Calls.{Among, destructors, lines_of, thing_class}
-use Rattle.aom_machine_instructions.proofs.TypingsLemmas.{among_right, below_from, below_lists, gone_with, kept_in_line, runs_among}
+use Rattle.aom_typing_rules.specs.Typing.{AllLead, IsTyped, Typing}
+use Rattle.aom_static_bounds.specs.Strongest.{IsStrongest}
+use Rattle.aom_static_bounds.specs.Depths.{HasDepths}
+use Rattle.aom_static_bounds.specs.Heights.{HasHeights}
+use Rattle.aom_static_bounds.specs.Calls.{Among, destructors, lines_of, thing_class}
+use Rattle.aom_machine_instructions.proofs.StaticBoundsLemmas.{among_right, below_from, below_lists, gone_with, kept_in_line, runs_among}
 use Rattle.aom_machine_instructions.proofs.RolesLemmas.{child, itself, through}
 use Rattle.aom_roles.specs.Families.{parent_of, parent_above, parent_by}
-use Rattle.aom_machine_instructions.proofs.SafetyLemmas.{claim_going_above, closing_layer, destroys_by, dispatch_layer, dropped, each_unslotted_alike}
+use Rattle.aom_machine_instructions.proofs.SafetyLemmas.{claim_going_above, closing_layer, destroys_by, dispatch_layer, dropped, each_slot_released_alike}
 use Rattle.aom_machine_instructions.proofs.SafetyLemmas.{fits_unowning, held_dropped, method_layer, queue_dropped, stands_session_of, steps_are_moves}
 use Rattle.aom_semantics.specs.Effects.{Effect, applied}
 use Rattle.aom_roles.specs.Classes.{sessions_at, sessions_in}
@@ -30,20 +30,20 @@ use Rattle.aom_roles.specs.Shapes.{kind_of}
 use Rattle.aom_image.specs.declared.method.Thing.{Thing}
 use Rattle.aom_image.specs.declared.method.Thing.TheVariants.{Object as An_object_of, Message}
 use Rattle.aom_roles.specs.Tests.{AllTrue}
-use Rattle.aom_shape.specs.Kinds.{filled}
-use Rattle.aom_shape.specs.declared.kind.Filling.TheVariants.{Full}
-use Rattle.aom_shape.specs.declared.kind.Kind.TheVariants.{Null}
-use Rattle.aom_semantics.specs.Destruction.{class_destructor, first_session, parting, seat_or}
-use Rattle.aom_safety.specs.Steps.{Empties, Acts, Arrives, Clears, Comes_out, Ends, Fits, Move, Rests, Undoes, Vanishes}
+use Rattle.aom_abstract_state.specs.Kinds.{filled}
+use Rattle.aom_abstract_state.specs.declared.kind.FieldState.TheVariants.{Full}
+use Rattle.aom_abstract_state.specs.declared.kind.Kind.TheVariants.{Null}
+use Rattle.aom_semantics.specs.Destruction.{class_destructor, first_session, parting, owned_object_or}
+use Rattle.aom_safety.specs.Steps.{Empties, Acts, Arrives, Clears, Comes_out, Ends, Fits, Move, Rests, Undoes, Reclaims}
 use Rattle.aom_machine_instructions.proofs.SemanticsLemmas.{held_without}
 use Rattle.aom_semantics.specs.Calls.{called, result_register}
-use Rattle.aom_semantics.specs.Cleanup.{code_told}
+use Rattle.aom_semantics.specs.Cleanup.{code_reported}
 use Rattle.aom_safety.specs.Laws.{IsWired}
 use Rattle.aom_safety.specs.Claims.{Dispatching, Dying, Ending, Layer, Method, claim, declared, forms, items_of, tasks_of}
 use Rattle.aom_semantics.specs.Moves.{answered, asking, counted, dispatch_ends, main_ends, step}
 use Rattle.aom_semantics.specs.Places.{service_of, Entry, Cell, Elsewhere, Going, Object, Place, Root, Session, held, moved, same_place, seen, without}
 use Rattle.aom_semantics.specs.State.{Closing, Destroy, A_mark, An_object, An_operation, Choice, Dispatch, Dispatched, Frame}
-use Rattle.aom_semantics.specs.State.{Goes, Home, Item, Counters, Run, Seat, State, Task, Trapped, Unwind, frame_of, next}
+use Rattle.aom_semantics.specs.State.{Goes, Receiver, Item, Counters, Run, OwnedObject, State, Task, Trapped, Unwind, frame_of, next}
 use Rattle.aom_safety.specs.WellTyped.{AllUndo, Fits as Fits_kind, Good, IsOfFamily, IsOverDying, WellTyped}
 use Rattle.aom_semantics.specs.World.{boot_state}
 use Rattle.aom_machine_state.specs.Room.{Destructs, HasRoom, entries_in}
@@ -52,7 +52,7 @@ use Rattle.aom_machine_instructions.proofs.MachineStateLemmas.{stands_here}
 use Rattle.aom_machine_instructions.proofs.RoomActs.{IsDealt, LineGoes, NextGoes, Tables, acts_room, begins_over, clears}
 use Rattle.aom_machine_instructions.proofs.RoomActs.{destructed_over, goes_there_now, going_apart, session_apart, undoes}
 use Rattle.aom_clients.specs.declared.client.Client.{Client}
-use Rattle.aom_semantics.specs.Clients.{each_unslotted}
+use Rattle.aom_semantics.specs.Clients.{each_slot_released}
 use Rattle.aom_semantics.specs.Servers.{is_among, is_queue_of, is_server, of_class, session_class, without_queue}
 
 -- ---- sessions
@@ -83,23 +83,23 @@ session_so p wired o so class has is = go o.thing has
     go Message has = absurd (none-some class has)
 
 -- the first of a server's sessions stands at its client's place
-pub first_held : (cs : List Cell) (n : ℕ) (clients : List ℕ) (x : Seat) →
+pub first_held : (cs : List Cell) (n : ℕ) (clients : List ℕ) (x : OwnedObject) →
     first_session cs n clients ≡ Some x → (c : ℕ) × (x.place ≡ Elsewhere (Session n c)) × (held cs (Elsewhere (Session n c)) ≡ Some x.object)
 first_held cs n [] x e = cc
 first_held cs n (d ∷ clients) x e = go (held cs (Elsewhere (Session n d))) refl e (λ e. first_held cs n clients x e)
   where
-    go : (o : Option Object) → held cs (Elsewhere (Session n d)) ≡ o → seat_or o (Elsewhere (Session n d)) (first_session cs n clients) ≡ Some x →
+    go : (o : Option Object) → held cs (Elsewhere (Session n d)) ≡ o → owned_object_or o (Elsewhere (Session n d)) (first_session cs n clients) ≡ Some x →
         (first_session cs n clients ≡ Some x → (c : ℕ) × (x.place ≡ Elsewhere (Session n c)) × (held cs (Elsewhere (Session n c)) ≡ Some x.object)) →
         (c : ℕ) × (x.place ≡ Elsewhere (Session n c)) × (held cs (Elsewhere (Session n c)) ≡ Some x.object)
     go None there e later = later e
     go (Some o) there e later =
         let same : record { object = o; place = Elsewhere (Session n d) } ≡ x = cc in
-        (d, sym (ap (λ (y : Seat). y.place) same), there ∙ ap (λ (y : Seat). Some y.object) same)
+        (d, sym (ap (λ (y : OwnedObject). y.place) same), there ∙ ap (λ (y : OwnedObject). Some y.object) same)
 
 -- of what lets go of its sessions
-pub session_told : (p : Image) (t : Typing) → IsWired p → (s : State) → WellTyped p t s → (ts : List Task) (o : Object) → s.tasks ≡ Closing ∷ Destroy ∷ ts →
+pub session_reported : (p : Image) (t : Typing) → IsWired p → (s : State) → WellTyped p t s → (ts : List Task) (o : Object) → s.tasks ≡ Closing ∷ Destroy ∷ ts →
     held s.cells (Going (length ts)) ≡ Some o → (c : ℕ) (so : Object) → held s.cells (Elsewhere (Session o.name c)) ≡ Some so → SessionOf p o so
-session_told p t wired s w ts o at there c so holds = closing_layer (λ ls. Good p t s.cells ls) (Destroy ∷ ts) w.layers (sym w.tasks ∙ at) w.good over
+session_reported p t wired s w ts o at there c so holds = closing_layer (λ ls. Good p t s.cells ls) (Destroy ∷ ts) w.layers (sym w.tasks ∙ at) w.good over
   where
     its_thing : (x : Option ℕ) → session_class p o.thing ≡ x → (b : Bool) →
         Fits_kind p (seen s.cells) (Some so) (cond b (filled (of_class x) Full) Null) → SessionOf p o so
@@ -147,7 +147,7 @@ pub line_goes : (p : Image) (t : Typing) → IsWired p → (s : State) → WellT
 line_goes p t wired s w fr ts at = method_layer (λ ls. Good p t s.cells ls) fr ts w.layers (sym w.tasks ∙ at) w.good
     (λ sh ls under good. subst (LineGoes p s.cells fr.method) under (go sh ls good))
   where
-    go : (sh : Shape) (ls : List Layer) → Good p t s.cells (Method fr sh ∷ ls) → LineGoes p s.cells fr.method (tasks_of ls)
+    go : (sh : AbstractState) (ls : List Layer) → Good p t s.cells (Method fr sh ∷ ls) → LineGoes p s.cells fr.method (tasks_of ls)
     go sh (Dying o ∷ ls) good =
         let d = good.stack.4 in
         next_goes p wired s.cells fr.method d.1.6 (tasks_of ls) o d.0.1 d.1.7 d.1.3 d.1.8
@@ -162,11 +162,11 @@ none_formed (i ∷ items) e = cc
 
 pub bare_end : (p : Image) (t : Typing) (s : State) (d : Dispatch) (ts : List Task) → WellTyped p t s → s.tasks ≡ Dispatched d ∷ ts → s.items ≡ []
 bare_end p t s d ts typed at = dispatch_layer (λ ls. (forms s.items ≡ items_of ls) × Good p t s.cells ls) d ts typed.layers (sym typed.tasks ∙ at)
-    (typed.items, typed.good) (λ seats ls _ h. none_formed s.items (h.0 ∙ ap (λ b. items_of (Dispatching d seats ∷ b)) h.1.stack.1))
+    (typed.items, typed.good) (λ owned_chain ls _ h. none_formed s.items (h.0 ∙ ap (λ b. items_of (Dispatching d owned_chain ∷ b)) h.1.stack.1))
 
 pub lone_end : (p : Image) (t : Typing) (s : State) (d : Dispatch) (ts : List Task) → WellTyped p t s → s.tasks ≡ Dispatched d ∷ ts → length s.tasks ≡ 1
 lone_end p t s d ts typed at = dispatch_layer (λ ls. (length s.tasks ≡ length (tasks_of ls)) × Good p t s.cells ls) d ts typed.layers (sym typed.tasks ∙ at)
-    (ap length typed.tasks, typed.good) (λ seats ls _ h. h.0 ∙ ap (λ b. length (tasks_of (Dispatching d seats ∷ b))) h.1.stack.1)
+    (ap length typed.tasks, typed.good) (λ owned_chain ls _ h. h.0 ∙ ap (λ b. length (tasks_of (Dispatching d owned_chain ∷ b))) h.1.stack.1)
 
 -- nothing is at hand to go past the tasks
 pub none_going_there : (p : Image) (t : Typing) (s : State) → WellTyped p t s → (k : ℕ) → length s.tasks ≡ k → held s.cells (Going k) ≡ None
@@ -181,9 +181,9 @@ module _ (p : Image) (t : Typing) (depth heights : ℕ → ℕ) (tables : Tables
   few v bare = subst (λ items. entries_in items ≤ 1024) (sym bare) (omega arith)
 
   -- the method that goes on is the one that waited
-  told : (s : State) (g : Gives) (x : ℕ) (code : ℤ) (fr : Frame) (items : List Item) (ts : List Task) →
-      Roomy p depth heights s.cells items (Run fr ∷ ts) → Roomy p depth heights s.cells items (Run (next (code_told g x code fr)) ∷ ts)
-  told s x y code fr items ts w = grind arith
+  reported : (s : State) (g : Gives) (x : ℕ) (code : ℤ) (fr : Frame) (items : List Item) (ts : List Task) →
+      Roomy p depth heights s.cells items (Run fr ∷ ts) → Roomy p depth heights s.cells items (Run (next (code_reported g x code fr)) ∷ ts)
+  reported s x y code fr items ts w = grind arith
 
   -- a dispatch ends, and its method that answers finds all the room that there is
   module _ (within : (m : ℕ) → heights m ≤ 1024) (s : State) (bare : s.items ≡ []) (free : held s.cells (Going 1) ≡ None) where
@@ -195,7 +195,7 @@ module _ (p : Image) (t : Typing) (depth heights : ℕ → ℕ) (tables : Tables
     answer_roomy : (answer : ℤ) → RoomyState (answered p answer s)
     answer_roomy answer = grind (arith, nat_tests, root_roomy, few s bare)
 
-    asking_roomy : (m : Option ℕ) (x : Seat) (code : ℤ) → RoomyState (asking p m x code s)
+    asking_roomy : (m : Option ℕ) (x : OwnedObject) (code : ℤ) → RoomyState (asking p m x code s)
     asking_roomy x y code = grind (arith, nat_tests, answer_roomy code, Roomy p depth heights s.cells)
 
     ends : (d : Dispatch) → RoomyState (dispatch_ends p d s)
@@ -208,7 +208,7 @@ module _ (p : Image) (t : Typing) (depth heights : ℕ → ℕ) (tables : Tables
       let h = stands_here p t s fr ts w at in
       let x = typed.each fr.method fr.place h.shape h.there in
       let is : x.instr ≡ i = same_Some x.instr i (sym x.stands ∙ there) in
-      acts_room p t depth heights tables c fr ts (counted p s) w.undos at (again h) (none_going_there p t s w (length (Run fr ∷ ts)) (ap length at))
+      acts_room p t depth heights tables c fr ts (counted p s) w.undo_operations at (again h) (none_going_there p t s w (length (Run fr ∷ ts)) (ap length at))
       (subst (λ us. Roomy p depth heights s.cells s.items us) at room) (line_goes p t tables.wired s w fr ts at) i there (subst (λ j. AllTrue
       (rule_needs p fr.method fr.place h.shape j)) is x.needs) (subst (λ j. AllLead t fr.method (flows p fr.method fr.place h.shape j)) is x.flows) e fits
     where
@@ -237,12 +237,12 @@ module _ (p : Image) (t : Typing) (depth heights : ℕ → ℕ) (tables : Tables
   -- a server lets go of a session, or its destructor begins
   emptied : (c : Choice) (s : State) → WellTyped p t s → (ts : List Task) (o : Object) →
       s.tasks ≡ Closing ∷ Destroy ∷ ts → held s.cells (Going (length ts)) ≡ Some o → Roomy p depth heights s.cells s.items (Closing ∷ Destroy ∷ ts) →
-      (x : Option Seat) → first_session s.cells o.name (service_of s.cells o.name).sessions ≡ x → RoomyState (parting p o x ts (counted p s))
+      (x : Option OwnedObject) → first_session s.cells o.name (service_of s.cells o.name).sessions ≡ x → RoomyState (parting p o x ts (counted p s))
   emptied c s w ts o at there room None e = grind (arith, nat_tests, destructed_over p t depth heights tables s.cells s.items o ts)
   emptied c s w ts o at there room (Some x) e =
       let f = first_held s.cells o.name (service_of s.cells o.name).sessions x e in
       let k = length (Closing ∷ Destroy ∷ ts) in
-      let its = session_told p t tables.wired s w ts o at there f.0 x.object f.2 in
+      let its = session_reported p t tables.wired s w ts o at there f.0 x.object f.2 in
       let from : held s.cells x.place ≡ Some x.object = ap (held s.cells) f.1 ∙ f.2 in
       let apart : (e : Place) → IsDealt e → same_place x.place e ≡ false = λ e dealt. ap (λ q. same_place q e) f.1 ∙ session_apart o.name f.0 e dealt in
       let cells' = moved x.place (Going k) s.cells in
@@ -257,11 +257,11 @@ module _ (p : Image) (t : Typing) (depth heights : ℕ → ℕ) (tables : Tables
   roomy_moves : ((m : ℕ) → heights m ≤ 1024) → IsTyped p t → (c : Choice) (s u : State) → WellTyped p t s → RoomyState s → Move p c s u → RoomyState u
   roomy_moves within typed c s u w room (Rests still same) = subst RoomyState (sym same) room
   roomy_moves within typed c s u w room (Acts fr ts i e at there met fits same) = subst RoomyState (sym same) (acts typed c s w room fr ts i e at there fits)
-  roomy_moves within typed c s u w room (Vanishes ts o at there owns same) =
+  roomy_moves within typed c s u w room (Reclaims ts o at there owns same) =
       let left = without_queue o.name s.cells in
-      let cells' = each_unslotted (service_of s.cells o.name).sessions (without (Going (length ts)) left) in
+      let cells' = each_slot_released (service_of s.cells o.name).sessions (without (Going (length ts)) left) in
       let still : (e : Place) → held cells' e ≡ held (without (Going (length ts)) left) e =
-      λ e. (each_unslotted_alike (service_of s.cells o.name).sessions (without (Going (length ts)) left)).held_so e in
+      λ e. (each_slot_released_alike (service_of s.cells o.name).sessions (without (Going (length ts)) left)).held_so e in
       let before : (e : Place) → held left e ≡ held (dropped (is_queue_of o.name) s.cells) e = λ e. ap (λ cs. held cs e) (queue_dropped o.name s.cells) in
       subst RoomyState (sym same) (on_again p depth heights cells' s.items ts (recelled p depth heights s.cells cells' s.items ts (
         λ k lt. still (Entry k) ∙ held_without left (Going (length ts)) (Entry k) ∙ before (Entry k) ∙ held_dropped (is_queue_of o.name) s.cells (Entry k),
@@ -273,12 +273,12 @@ module _ (p : Image) (t : Typing) (depth heights : ℕ → ℕ) (tables : Tables
       subst RoomyState (sym same) (clears p t depth heights tables s.cells items o (Unwind code ∷ ts) there (none_going_there p t s w (length
       (Unwind code ∷ ts)) (ap length at)) tt (low_unwinding p t s code ts An_object items w at top) (with_top code ts An_object items s room at top))
   roomy_moves within typed c s u w room (Undoes code ts items m x at top same) =
-      subst RoomyState (sym same) (undoes p t depth heights tables s.cells items m x (Unwind code ∷ ts) (subst (λ is. AllUndo p is) top w.undos).0
+      subst RoomyState (sym same) (undoes p t depth heights tables s.cells items m x (Unwind code ∷ ts) (subst (λ is. AllUndo p is) top w.undo_operations).0
       (low_unwinding p t s code ts (An_operation m x) items w at top) (with_top code ts (An_operation m x) items s room at top))
   roomy_moves within typed c s u w room (Arrives code fr ts items at top same) =
       let i = instr_at p fr.method fr.place in
       let low = low_unwinding p t s code (Trapped ∷ Run fr ∷ ts) A_mark items w at top in
-      subst RoomyState (sym same) (told s (called p i) (result_register i) code fr items ts
+      subst RoomyState (sym same) (reported s (called p i) (result_register i) code fr items ts
       (popped p depth heights s.cells A_mark items (Run fr ∷ ts) low (with_top code (Trapped ∷ Run fr ∷ ts) A_mark items s room at top)))
   roomy_moves within typed c s u w room (Comes_out code d ts items at top same) =
       subst RoomyState (sym same) (popped p depth heights s.cells A_mark items (Dispatched d ∷ ts) (low_unwinding p t s code
@@ -305,11 +305,11 @@ pub boots_with_room : (p : Image) (depth : ℕ → ℕ) (heights : HasHeights p)
 boots_with_room p depth heights = grind (arith, nat_tests)
 
 -- and so has a dispatch that begins
-pub dispatches_with_room : (p : Image) (depth : ℕ → ℕ) (heights : HasHeights p) (cs : List Cell) (m : ℕ) (home : Home)
+pub dispatches_with_room : (p : Image) (depth : ℕ → ℕ) (heights : HasHeights p) (cs : List Cell) (m : ℕ) (receiver : Receiver)
     (d : Dispatch) (items : List Item) (r : Counters) (dead : List ℕ) (clients : List Client) → items ≡ [] → HasRoom p depth (at 0 heights.heights)
-    (record { cells = cs; tasks = Run (frame_of m home (length (A_mark ∷ items))) ∷ Trapped ∷ Dispatched d ∷ []; items = A_mark ∷ items; rest = r; killed = dead; clients = clients })
-dispatches_with_room p depth heights cs m home d items r dead clients bare = subst (λ is. HasRoom p depth (at 0 heights.heights)
-    (record { cells = cs; tasks = Run (frame_of m home (length (A_mark ∷ is))) ∷ Trapped ∷ Dispatched d ∷ []; items = A_mark ∷ is; rest = r; killed = dead; clients = clients })) (sym bare) (record {
+    (record { cells = cs; tasks = Run (frame_of m receiver (length (A_mark ∷ items))) ∷ Trapped ∷ Dispatched d ∷ []; items = A_mark ∷ items; rest = r; killed = dead; clients = clients })
+dispatches_with_room p depth heights cs m receiver d items r dead clients bare = subst (λ is. HasRoom p depth (at 0 heights.heights)
+    (record { cells = cs; tasks = Run (frame_of m receiver (length (A_mark ∷ is))) ∷ Trapped ∷ Dispatched d ∷ []; items = A_mark ∷ is; rest = r; killed = dead; clients = clients })) (sym bare) (record {
       under = (tt, tt);
       runs = ((λ le k e. absurd e, tt), tt);
       fit = (λ may. let most = heights.are.within m in omega (arith, most), tt);

@@ -18,14 +18,14 @@ use Rattle.aom_semantics.specs.Calls.{accepted_cells, accepted_clients, below_to
 use Rattle.aom_semantics.specs.Clients.{at_opening, client_at, with_client}
 use Rattle.aom_safety.specs.Kept.{ClientsFit, StageKept}
 use Rattle.aom_semantics.specs.Places.{Cell, Elsewhere, Entry, Field, Going, In_service, Place, Queued, Register}
-use Rattle.aom_semantics.specs.Places.{Root, Session, Tidy, held, moved, named, same_place, service_of}
+use Rattle.aom_semantics.specs.Places.{Root, Session, NoDuplicates, held, moved, named, same_place, service_of}
 use Rattle.aom_semantics.specs.Servers.{opened, reserved}
 use Rattle.aom_semantics.specs.State.{Accepts, Accepted, Dispatched, Of_server, State, Task}
 use Rattle.aom_machine_instructions.proofs.MachineStateLemmas.{beside_served, cells_beside, cells_moved, connecting_below, connecting_here, connects_nowhere}
 use Rattle.aom_machine_instructions.proofs.MachineStateLemmas.{listed_beside, mark_shows_none, messages_moved, messages_served, natives_beside, natives_moved}
 use Rattle.aom_machine_instructions.proofs.MachineStateLemmas.{requests_kept, requests_moved, reserved_moved, same_opened, same_still, services_moved}
-use Rattle.aom_machine_instructions.proofs.MachineStateLemmas.{session_opened, sized_connected, still_moved, tokens_beside, told_served, unmarked}
-use Rattle.aom_machine_state.specs.Agrees.{Agrees, Represents, seat_of, subject_of, word_at}
+use Rattle.aom_machine_instructions.proofs.MachineStateLemmas.{session_opened, sized_connected, still_moved, tokens_beside, reported_served, unmarked}
+use Rattle.aom_machine_state.specs.Agrees.{Agrees, Represents, owned_object_of, subject_of, word_at}
 use Rattle.aom_machine_state.specs.Places.{others, value_in}
 use Rattle.aom_machine_state.specs.Serving.{SameClients}
 use Rattle.aom_machine_state.specs.declared.parts.Parts.{Parts}
@@ -33,7 +33,7 @@ use Rattle.aom_machine_instructions.proofs.CallActs.{Closing, shows_null}
 
 -- ---- what `accept` gave is the session of the client
 
-module _ (p : Image) (few : p.header.cells ≤ 4096) (m : Parts) (s : State) (tidy : Tidy s.cells) (fit : ClientsFit p s.clients s.cells)
+module _ (p : Image) (few : p.header.cells ≤ 4096) (m : Parts) (s : State) (no_duplicates : NoDuplicates s.cells) (fit : ClientsFit p s.clients s.cells)
     (agrees : Agrees p m s) (x : Subject) (q : Place) (c : ℕ) (lives : named s.cells x.number ≡ Some (subject_of x)) (below : x.number < p.header.cells)
     (kept_so : StageKept p s.clients s.cells (subject_of x) c Accepts) where
   -- the place of the session
@@ -90,10 +90,10 @@ module _ (p : Image) (few : p.header.cells ≤ 4096) (m : Parts) (s : State) (ti
 
     -- all of the machine, once the method and its trap are gone
     pub accepts : (es : Machine_items) → m.entries ≡ record es { items = Is_mark ∷ es.items } → let u = record s {
-      cells = accepted_cells (Of_server (seat_of q x) c Accepts) from s.cells;
-      tasks = Dispatched (Of_server (seat_of q x) c Accepted) ∷ [];
+      cells = accepted_cells (Of_server (owned_object_of q x) c Accepts) from s.cells;
+      tasks = Dispatched (Of_server (owned_object_of q x) c Accepted) ∷ [];
       items = below_top s.items;
-      clients = accepted_clients (Of_server (seat_of q x) c Accepts) s.clients;
+      clients = accepted_clients (Of_server (owned_object_of q x) c Accepts) s.clients;
     } in
         Closing u → Agrees p (record m { stack = record m.stack { tasks = Ends (Of_one_served x c stages.Accepted) ∷ [] }; entries = es; clients = k }) u
     accepts es marked shut = record {
@@ -111,7 +111,7 @@ module _ (p : Image) (few : p.header.cells ≤ 4096) (m : Parts) (s : State) (ti
         messages = messages_served p m.messages between x.number (opened c (service_of between x.number))
             (messages_moved p m.messages s.cells from to agrees.services.messages);
         tokens = tokens_beside p m.tokens between after (beside_served between x.number (opened c (service_of between x.number)))
-            (told_served between x.number (opened c (service_of between x.number)) refl) ((services_moved p s.cells from to refl refl agrees.services).tokens);
+            (reported_served between x.number (opened c (service_of between x.number)) refl) ((services_moved p s.cells from to refl refl agrees.services).tokens);
         listed = listed_beside p m.listed between after (beside_served between x.number (opened c (service_of between x.number)))
             ((services_moved p s.cells from to refl refl agrees.services).listed);
       };
@@ -121,7 +121,7 @@ module _ (p : Image) (few : p.header.cells ≤ 4096) (m : Parts) (s : State) (ti
     }
       where
         shown : (r : Place) → Represents (value_in (Ends (Of_one_served x c stages.Accepted) ∷ []) m.cells es.items (record (others m) { clients = k }) r)
-            (word_at (Dispatched (Of_server (seat_of q x) c Accepted) ∷ []) r) (held after r)
+            (word_at (Dispatched (Of_server (owned_object_of q x) c Accepted) ∷ []) r) (held after r)
         shown (Register i j) = shows_null _ _ _ (cond_same (0 == i) null) (cond_same (0 == i) None) (shut.registers i j)
         shown (Entry i) = grind (arith, nat_tests, shows_null, mark_shows_none es.items i, holds (Entry i))
         shown (Going i) = shows_null _ _ _ (cond_same (0 == i) null) refl (shut.goings i)

@@ -1,7 +1,7 @@
 -- A destruction of a cell that goes with nothing before it.
 use Rattle.std.proofs.Common.{arith, ℕ, Bool, true, false, not, cond, List, ◌∷◌, Some, None, ◌≡◌, ◌<◌, ◌∙◌, ap, subst}
 use Rattle.aom_cells.specs.Heap.{null, class_at}
-use Rattle.aom_classes.specs.Roles.{role_of}
+use Rattle.aom_link_conditions.specs.Roles.{role_of}
 use Rattle.aom_frames.specs.Tasks.{on_top, register_here, with_register}
 use Rattle.aom_frames.specs.declared.task.Task.{Task}
 use Rattle.aom_frames.specs.declared.task.Task.TheVariants.{Closing, Destroy}

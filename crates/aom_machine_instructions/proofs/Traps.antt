@@ -1,7 +1,7 @@
 -- The method that sets a trap has a register for its code: the operands of an instruction are within their ranges.
 use Rattle.std.proofs.lemmas.Bool.Decides.{nat_tests}
 use Rattle.std.proofs.Common.{suc, ◌≡◌, ◌<◌, ℕ, length, List, ◌∷◌, Some, arith}
-use Rattle.aom_machine_instructions.proofs.ClassesLemmas.{all_there, of_method}
+use Rattle.aom_machine_instructions.proofs.LinkConditionsLemmas.{all_there, of_method}
 use Rattle.aom_image.specs.Image.{Image}
 use Rattle.aom_image.specs.Views.{instr_at, method_at}
 use Rattle.aom_instructions.specs.Fits.{InstrFits, limits}

@@ -15,22 +15,22 @@ use Rattle.aom_cells.specs.Heap.{null}
 use Rattle.aom_frames.specs.Items.{Stack as Machine_items, IsAboveMark, IsMarked}
 use Rattle.aom_frames.specs.declared.item.Item.{Item as Machine_item}
 use Rattle.aom_frames.specs.declared.item.Item.TheVariants.{Mark as Is_mark}
-use Rattle.aom_roles.specs.Tables.{at, put_at}
-use Rattle.aom_rules.specs.Typing.{Typing}
+use Rattle.aom_roles.specs.Tables.{at, set_extending}
+use Rattle.aom_typing_rules.specs.Typing.{Typing}
 use Rattle.aom_machine_instructions.proofs.SafetyLemmas.{claim_register, goes_same, guarded_goes, guarded_met, leave_layer, under_dispatch}
 use Rattle.aom_semantics.specs.Calls.{below_top, called, result_register}
 use Rattle.aom_safety.specs.Claims.{Unwinding, tasks_of, declared}
-use Rattle.aom_semantics.specs.Cleanup.{arrival, code_told, dealt_with as deals_with, ended_by, top_is_whole, tops_entry, unwound}
+use Rattle.aom_semantics.specs.Cleanup.{arrival, code_reported, dealt_with as deals_with, ended_by, top_is_whole, top_matches_entry, unwound}
 use Rattle.aom_safety.specs.Laws.{IsWired}
 use Rattle.aom_semantics.specs.Places.{Place, Register, changed, held}
 use Rattle.aom_semantics.specs.State.{Frame, Task, Run, Trapped, Unwind, Dispatched, Item, An_object, An_operation}
 use Rattle.aom_semantics.specs.State.{A_mark, State, Goes, IsStuck, NullOrDead, next, set_word, word}
-use Rattle.aom_safety.specs.WellTyped.{Good, Keeps, WellTyped}
+use Rattle.aom_safety.specs.WellTyped.{Good, PreservesTyping, WellTyped}
 use Rattle.aom_transcript.specs.declared.line.Line.TheVariants.{Leave}
 use Rattle.aom_safety.specs.Traps.{AllAtTraps}
-use Rattle.aom_machine_instructions.proofs.SemanticsLemmas.{at-put_at}
+use Rattle.aom_machine_instructions.proofs.SemanticsLemmas.{at-set_extending}
 use Rattle.aom_machine_state.specs.LineBuffer.{LineBuffer}
-use Rattle.aom_frames.specs.Tasks.{Runs, method_here, place_here, below_first}
+use Rattle.aom_frames.specs.Tasks.{TopFrameIs, method_here, place_here, below_first}
 use Rattle.aom_frames.specs.declared.frame.Frame.{Frame as Machine_frame}
 use Rattle.aom_frames.specs.declared.task.Task.{Task as Machine_task}
 use Rattle.aom_frames.specs.declared.task.Task.TheVariants.{Run as Runs_frame, Trapped as Is_trap, Unwind as Unwinds, Dispatched as Ends}
@@ -38,22 +38,22 @@ use Rattle.aom_frames.specs.declared.dispatch.Dispatch.{Dispatch as Machine_disp
 use Rattle.aom_machine_state.specs.declared.parts.Parts.{Parts}
 use Rattle.aom_machine_state.specs.Places as places
 use Rattle.aom_machine_state.specs.Agrees.{Represents, SameFrame, SameItems, SameTasks, dispatch_of, word_at, Agrees}
-use Rattle.aom_machine_instructions.specs.Cleanup.{TopLives, Unwinds as Unwinds_by, dealt_with, lost, told}
+use Rattle.aom_machine_instructions.specs.Cleanup.{TopLives, Unwinds as Unwinds_by, dealt_with, lost, reported}
 use Rattle.aom_machine_instructions.specs.Ends.{left, left_by}
 use Rattle.aom_machine_state.specs.Places.{others, code_here, value_in, with_tasks, IsEnding, IsTrapped, IsUnwinding}
 use Rattle.aom_machine_state.specs.Room.{CalleeThere, CallsThere, ReturnsTo}
 use Rattle.aom_machine_state.specs.Stands.{Stands}
 use Rattle.aom_machine_instructions.proofs.CallActs.{closing, ended}
 use Rattle.aom_machine_instructions.proofs.DealActs.{deals}
-use Rattle.aom_machine_instructions.proofs.MachineStateLemmas.{A_caught_leave, A_last_leave, Alike, Alike_items, Entries_alike, Tops, alike, both_end}
+use Rattle.aom_machine_instructions.proofs.MachineStateLemmas.{A_caught_leave, A_last_leave, Alike, Alike_items, Entries_alike, TopMatches, alike, both_end}
 use Rattle.aom_machine_instructions.proofs.MachineStateLemmas.{both_marks, both_run, both_trapped, both_unwind, caught_leave_on_top, entries_alike, entries_own}
 use Rattle.aom_machine_instructions.proofs.MachineStateLemmas.{entries_run, items_alike, kept, last_leave_on_top, mark_shows_none, none_alike, over_value}
-use Rattle.aom_machine_instructions.proofs.MachineStateLemmas.{over_words, same_below, same_length, tops, value_alike, value_written, word_written, writes}
+use Rattle.aom_machine_instructions.proofs.MachineStateLemmas.{over_words, same_below, same_length, top_matches, value_alike, value_written, word_written, writes}
 use Rattle.aom_machine_instructions.proofs.Finding.{held_beneath, unwinds_over, IsTrapOnTop}
 use Rattle.aom_machine_instructions.proofs.LeavingActs.{unwinds_value, unwinds_word}
 use Rattle.aom_machine_instructions.proofs.ReturnActs.{awaiting, awaits_none, bears, caught_layer, word_alone}
 use Rattle.aom_machine_instructions.proofs.Running.{agrees_with, an_open, aside_of, aside_unmarked, moved_on}
-use Rattle.aom_machine_instructions.proofs.ProgressLemmas.{leads_on}
+use Rattle.aom_machine_instructions.proofs.TerminationLemmas.{leads_on}
 use Rattle.aom_machine_instructions.proofs.Stepping.{at_rest, step_of_unwinding, unwinding_of}
 use Rattle.aom_machine_instructions.proofs.Topping.{top_lives}
 
@@ -62,22 +62,22 @@ use Rattle.aom_machine_instructions.proofs.Topping.{top_lives}
 pub whole_goes : (b : Bool) (v u : State) → cond b (Goes v) (IsStuck NullOrDead) ≡ Goes u → (b ≡ true) × (v ≡ u)
 whole_goes b v u e = ((guarded_met ((b, NullOrDead) ∷ []) v u e).0, guarded_goes ((b, NullOrDead) ∷ []) v u e)
 
-pub deals_move : (p : Image) (m : Parts) (told : LineBuffer) → IsAboveMark m.entries.items → Unwinds_by p m (dealt_with p m) told told
-deals_move p m told above h u e typed = go (entries_alike m.entries.items h.state.items h.agrees.entries above) refl e
+pub deals_move : (p : Image) (m : Parts) (reported : LineBuffer) → IsAboveMark m.entries.items → Unwinds_by p m (dealt_with p m) reported reported
+deals_move p m reported above h u e typed = go (entries_alike m.entries.items h.state.items h.agrees.entries above) refl e
   where
     s : State
     s = h.state
 
-    done : (js : List Item) → s.items ≡ js → tops_entry js ≡ true → top_is_whole s.cells js ≡ true → deals_with p js (Unwind h.code ∷ h.below) s ≡ u →
-        arrival h.code s.items ≡ [] → Agrees p (dealt_with p m) u × (told ≡ record told { lines = told.lines ++ arrival h.code s.items })
+    done : (js : List Item) → s.items ≡ js → top_matches_entry js ≡ true → top_is_whole s.cells js ≡ true → deals_with p js (Unwind h.code ∷ h.below) s ≡ u →
+        arrival h.code s.items ≡ [] → Agrees p (dealt_with p m) u × (reported ≡ record reported { lines = reported.lines ++ arrival h.code s.items })
     done js is some whole same none = (
       subst (Agrees p (dealt_with p m)) (ap (λ us. deals_with p s.items us s) h.top ∙ ap (λ is. deals_with p is (Unwind h.code ∷ h.below) s) is ∙ same)
-          (deals p h.formed m h.typing s h.typed h.agrees (ap tops_entry is ∙ some) (ap (λ is. top_is_whole s.cells is) is ∙ whole)),
-      ap (λ ls. record told { lines = ls }) (sym (ap (λ ls. told.lines ++ ls) none ∙ append-nil told.lines)),
+          (deals p h.formed m h.typing s h.typed h.agrees (ap top_matches_entry is ∙ some) (ap (λ is. top_is_whole s.cells is) is ∙ whole)),
+      ap (λ ls. record reported { lines = ls }) (sym (ap (λ ls. reported.lines ++ ls) none ∙ append-nil reported.lines)),
     )
 
     go : {is : List Machine_item} {js : List Item} → Entries_alike is js → s.items ≡ js →
-        unwound p h.code h.below s js ≡ Goes u → Agrees p (dealt_with p m) u × (told ≡ record told { lines = told.lines ++ arrival h.code s.items })
+        unwound p h.code h.below s js ≡ Goes u → Agrees p (dealt_with p m) u × (reported ≡ record reported { lines = reported.lines ++ arrival h.code s.items })
     go (entries_own n is js same) is' e = let w = whole_goes (top_is_whole s.cells (An_object ∷ js))
         (deals_with p (An_object ∷ js) (Unwind h.code ∷ h.below) s) u e in done (An_object ∷ js) is' refl w.0 w.1 (ap (arrival h.code) is')
     go (entries_run m n k w is js _ _ same) is' e =
@@ -94,7 +94,7 @@ module _ (p : Image) (m : Parts) (st : Stands (record { image = p; parts = m }))
       let f = unwinding_of m.stack.tasks s.tasks unwinding st.1.agrees.tasks in
       let c = an_open p [] m s st.1.agrees in
       let k = leads_on p t (unwound p f.0 f.1 (at_rest s) s.items)
-      (subst (Keeps p t) (step_of_unwinding p c.0 s f.0 f.1 f.2) (st.1.sound.keeps c.0 s st.1.typed c.1.name)) in
+      (subst (PreservesTyping p t) (step_of_unwinding p c.0 s f.0 f.1 f.2) (st.1.sound.keeps c.0 s st.1.typed c.1.name)) in
       (f.0, f.1, k.0, f.2, k.1)
 
   pub unwinds_whole : TopLives m
@@ -185,32 +185,32 @@ module _ (p : Image)
       (word_written caller' ts (suc x) (suc caller.place) (Some code)) (λ r. kept (held s.cells) q r ∙ ap (λ o. changed (held s.cells) q o r) none))
 
   -- by what the method gives
-  tells : (code : ℤ) (gv : Gives) →
+  reports : (code : ℤ) (gv : Gives) →
       FitsSigned w32 code → (bears gv ≡ true → held s.cells (Register (length ts) x) ≡ None) → held s.cells (Register (length ts) (suc x)) ≡ None →
       Agrees p (places.next (places.set_register (suc x) (cast_unsigned w32 code) (lost gv x (record (with_tasks (Runs_frame g ∷ ms) m) { entries = es }))))
-      (record s { tasks = Run (next (code_told gv x code caller)) ∷ ts; items = below_top s.items })
-  tells code A_word fits free none = codes code _ _ fits none (clears 0 (Some (pos 0)) refl (free refl))
-  tells code (An_own t) fits free none = codes code _ _ fits none (clears null None refl (free refl))
-  tells code (A_maybe t) fits free none = codes code _ _ fits none (clears null None refl (free refl))
-  tells code _ fits free none = codes code g.registers caller.words fits none (record { values = base; wide = same_frame.wide })
+      (record s { tasks = Run (next (code_reported gv x code caller)) ∷ ts; items = below_top s.items })
+  reports code A_word fits free none = codes code _ _ fits none (clears 0 (Some (pos 0)) refl (free refl))
+  reports code (An_own t) fits free none = codes code _ _ fits none (clears null None refl (free refl))
+  reports code (A_maybe t) fits free none = codes code _ _ fits none (clears null None refl (free refl))
+  reports code _ fits free none = codes code g.registers caller.words fits none (record { values = base; wide = same_frame.wide })
 
 -- the code's register has a word then
 code_alone : (p : Image) (t : Typing) (gv : Gives) (x : ℕ) (code : ℤ) (caller : Frame) (ts : List Task) (s : State) →
-    WellTyped p t s → s.tasks ≡ Run (next (code_told gv x code caller)) ∷ ts → held s.cells (Register (length ts) (suc x)) ≡ None
-code_alone p t gv x code caller ts s typed top = word_alone p t s (next (code_told gv x code caller)) ts (suc x) code typed top (has gv)
+    WellTyped p t s → s.tasks ≡ Run (next (code_reported gv x code caller)) ∷ ts → held s.cells (Register (length ts) (suc x)) ≡ None
+code_alone p t gv x code caller ts s typed top = word_alone p t s (next (code_reported gv x code caller)) ts (suc x) code typed top (has gv)
   where
-    written : (ws : List (Option ℤ)) → at None (put_at None ws (suc x) (Some code)) (suc x) ≡ Some code
-    written ws = at-put_at None ws (suc x) (suc x) (Some code) ∙ ap (λ b. cond b (Some code) (at None ws (suc x))) (eq-eqb (suc x) (suc x) refl)
+    written : (ws : List (Option ℤ)) → at None (set_extending None ws (suc x) (Some code)) (suc x) ≡ Some code
+    written ws = at-set_extending None ws (suc x) (suc x) (Some code) ∙ ap (λ b. cond b (Some code) (at None ws (suc x))) (eq-eqb (suc x) (suc x) refl)
 
-    has : (gv : Gives) → word (next (code_told gv x code caller)) (suc x) ≡ Some code
+    has : (gv : Gives) → word (next (code_reported gv x code caller)) (suc x) ≡ Some code
     has A_word = written (set_word caller x (Some (pos 0))).words
     has (An_own t) = written (set_word caller x None).words
     has (A_maybe t) = written (set_word caller x None).words
     has _ = written caller.words
 
 -- a code as it is told is the one at hand
-pub told_code : (k code : ℤ) → FitsSigned w32 k → k ≡ code → (to_z w32 (of_z w32 k) ≡ code) × FitsSigned w32 code
-told_code k code fits is = (to_z-of_z w32 k fits ∙ is, subst (FitsSigned w32) is fits)
+pub reported_code : (k code : ℤ) → FitsSigned w32 k → k ≡ code → (to_z w32 (of_z w32 k) ≡ code) × FitsSigned w32 code
+reported_code k code fits is = (to_z-of_z w32 k fits ∙ is, subst (FitsSigned w32) is fits)
 
 module _ (p : Image) (m : Parts) (es : Machine_items) (marked : m.entries ≡ record es { items = Is_mark ∷ es.items }) (t : LineBuffer)
     (fits : FitsSigned w32 (code_here m.stack.tasks)) where
@@ -224,11 +224,11 @@ module _ (p : Image) (m : Parts) (es : Machine_items) (marked : m.entries ≡ re
   top_mark js same = grind (arith, nat_tests, items_alike (Is_mark ∷ es.items) js, Alike_items (Is_mark ∷ es.items) js, both_marks)
 
   pub arrives_method : IsUnwinding m.stack.tasks →
-      IsTrapped (below_first m.stack.tasks) → Runs under → suc (result_register (instr_at p (method_here under) (place_here under))) < 16 → Unwinds_by p m
-      (told p (instr_at p (method_here under) (place_here under)) (code_here m.stack.tasks) (record (with_tasks under m) { entries = es })) t said
+      IsTrapped (below_first m.stack.tasks) → TopFrameIs under → suc (result_register (instr_at p (method_here under) (place_here under))) < 16 → Unwinds_by p m
+      (reported p (instr_at p (method_here under) (place_here under)) (code_here m.stack.tasks) (record (with_tasks under m) { entries = es })) t said
   arrives_method unwinding trapped runs coded h u e typed =
       let k = top_mark h.state.items h.agrees.entries in
-      go m.stack.tasks h.code h.below refl h.top (tops A_caught_leave m.stack.tasks (unwinding, trapped, runs)) coded fits
+      go m.stack.tasks h.code h.below refl h.top (top_matches A_caught_leave m.stack.tasks (unwinding, trapped, runs)) coded fits
       (alike m.stack.tasks (Unwind h.code ∷ h.below) (subst (SameTasks m.stack.tasks) h.top h.agrees.tasks))
       (λ r. subst (λ us. Represents (value_in m.stack.tasks m.cells m.entries.items (others m) r) (word_at us r) (held h.state.cells r)) h.top
       (h.agrees.values r)) k.0 k.1 (subst (λ is. unwound p h.code h.below h.state is ≡ Goes u) k.1 e)
@@ -239,10 +239,10 @@ module _ (p : Image) (m : Parts) (es : Machine_items) (marked : m.entries ≡ re
       Done : List Machine_task → ℤ → Type 0
       Done us code =
           let v = below_first (below_first us) in
-          Agrees p (told p (instr_at p (method_here v) (place_here v)) (code_here us) (record (with_tasks v m) { entries = es })) u ×
+          Agrees p (reported p (instr_at p (method_here v) (place_here v)) (code_here us) (record (with_tasks v m) { entries = es })) u ×
           (record t { lines = t.lines ++ Leave (code_here us) ∷ [] } ≡ record t { lines = t.lines ++ arrival code s.items })
 
-      go : (us : List Machine_task) (code : ℤ) (below : List Task) → m.stack.tasks ≡ us → s.tasks ≡ Unwind code ∷ below → Tops A_caught_leave us →
+      go : (us : List Machine_task) (code : ℤ) (below : List Task) → m.stack.tasks ≡ us → s.tasks ≡ Unwind code ∷ below → TopMatches A_caught_leave us →
           suc (result_register (instr_at p (method_here (below_first (below_first us))) (place_here (below_first (below_first us))))) < 16 →
           FitsSigned w32 (code_here us) → Alike us (Unwind code ∷ below) → ((r : Place) → Represents (value_in us m.cells m.entries.items (others m) r) (word_at
           (Unwind code ∷ below) r) (held s.cells r)) → (ks : List Item) → s.items ≡ A_mark ∷ ks → unwound p code below s (A_mark ∷ ks) ≡ Goes u → Done us code
@@ -252,7 +252,7 @@ module _ (p : Image) (m : Parts) (es : Machine_items) (marked : m.entries ≡ re
           let x = result_register i in
           let gv = called p i in
           let alike : instr_at p g.method g.place ≡ i = ap (λ n. instr_at p n g.place) frame.method ∙ ap (λ n. instr_at p caller.method n) frame.place in
-          let v : State = record s { tasks = Run (next (code_told gv x code caller)) ∷ ts; items = ks } in
+          let v : State = record s { tasks = Run (next (code_reported gv x code caller)) ∷ ts; items = ks } in
           let is : v ≡ u = goes_same v u e in
           let fresh = subst (WellTyped p h.typing) (sym is) typed in
           let small : suc x < 16 = subst (λ o. suc (result_register o) < 16) alike coded in
@@ -264,12 +264,12 @@ module _ (p : Image) (m : Parts) (es : Machine_items) (marked : m.entries ≡ re
           ∙ value_alike (Runs_frame g ∷ ms) m.cells (Is_mark ∷ es.items) es.items (others m) (λ d. mark_shows_none es.items d) r)
           (subst (λ w. Represents (value_in (Unwinds c ∷ Is_trap ∷ Runs_frame g ∷ ms) m.cells m.entries.items (others m) r) w (held s.cells r))
           (unwinds_word (Trapped ∷ Run caller ∷ ts) code r ∙ over_words true (Run caller ∷ ts) r) (values r)) in
-          let told_all = tells p m s h.agrees es marked g ms caller ts frame rest x small base code gv (subst (FitsSigned w32) same fits)
+          let reported_all = reports p m s h.agrees es marked g ms caller ts frame rest x small base code gv (subst (FitsSigned w32) same fits)
           (awaited_caught p h.typing s code caller ts h.typed top) (code_alone p h.typing gv x code caller ts v fresh refl) in (
-            subst (λ o. Agrees p (told p o c (record (with_tasks (Runs_frame g ∷ ms) m) { entries = es })) u) (sym alike)
-                (subst (λ w. Agrees p (told p i w (record (with_tasks (Runs_frame g ∷ ms) m) { entries = es })) u) (sym same)
-                (subst (Agrees p (told p i code (record (with_tasks (Runs_frame g ∷ ms) m) { entries = es })))
-                (ap (λ js. record s { tasks = Run (next (code_told gv x code caller)) ∷ ts; items = below_top js }) items ∙ is) told_all)),
+            subst (λ o. Agrees p (reported p o c (record (with_tasks (Runs_frame g ∷ ms) m) { entries = es })) u) (sym alike)
+                (subst (λ w. Agrees p (reported p i w (record (with_tasks (Runs_frame g ∷ ms) m) { entries = es })) u) (sym same)
+                (subst (Agrees p (reported p i code (record (with_tasks (Runs_frame g ∷ ms) m) { entries = es })))
+                (ap (λ js. record s { tasks = Run (next (code_reported gv x code caller)) ∷ ts; items = below_top js }) items ∙ is) reported_all)),
             ap (λ w. record t { lines = t.lines ++ Leave w ∷ [] }) same ∙ ap (λ js. record t { lines = t.lines ++ arrival code js }) (sym items),
           )
 
@@ -277,7 +277,7 @@ module _ (p : Image) (m : Parts) (es : Machine_items) (marked : m.entries ≡ re
       IsEnding under → Unwinds_by p m (record (with_tasks (left_by (code_here m.stack.tasks) under) m) { entries = es }) t said
   arrives_end unwinding trapped ending h u e typed =
       let k = top_mark h.state.items h.agrees.entries in
-      go m.stack.tasks h.code h.below h.top (tops A_last_leave m.stack.tasks (unwinding, trapped, ending)) (alike m.stack.tasks (Unwind h.code ∷ h.below)
+      go m.stack.tasks h.code h.below h.top (top_matches A_last_leave m.stack.tasks (unwinding, trapped, ending)) (alike m.stack.tasks (Unwind h.code ∷ h.below)
       (subst (SameTasks m.stack.tasks) h.top h.agrees.tasks)) k.0 k.1 (subst (λ is. unwound p h.code h.below h.state is ≡ Goes u) k.1 e)
     where
       s : State
@@ -287,7 +287,7 @@ module _ (p : Image) (m : Parts) (es : Machine_items) (marked : m.entries ≡ re
       Done us code = Agrees p (record (with_tasks (left_by (code_here us) (below_first (below_first us))) m) { entries = es }) u ×
           (record t { lines = t.lines ++ Leave (code_here us) ∷ [] } ≡ record t { lines = t.lines ++ arrival code s.items })
 
-      go : (us : List Machine_task) (code : ℤ) (below : List Task) → s.tasks ≡ Unwind code ∷ below → Tops A_last_leave us → Alike us (Unwind code ∷ below)
+      go : (us : List Machine_task) (code : ℤ) (below : List Task) → s.tasks ≡ Unwind code ∷ below → TopMatches A_last_leave us → Alike us (Unwind code ∷ below)
           → (ks : List Item) → s.items ≡ A_mark ∷ ks → unwound p code below s (A_mark ∷ ks) ≡ Goes u → Done us code
       go _ code _ top (last_leave_on_top c y ms) (both_unwind _ _ _ _ same _ (both_trapped _ _ _ (both_end _ d _ ts ends rest _))) ks items e =
           let d' = ended_by code d in

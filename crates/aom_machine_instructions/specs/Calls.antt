@@ -2,8 +2,8 @@
 use Rattle.std.specs.Prelude.{ℕ, ◌==◌, ◌&&◌, Bool, true, false, is_some, cond, List, Option, Some, None}
 use Rattle.aom_image.specs.Image.{Image}
 use Rattle.aom_image.specs.Views.{method_class}
-use Rattle.aom_classes.specs.Overriding.{body_of}
-use Rattle.aom_classes.specs.Roles.{or_else}
+use Rattle.aom_link_conditions.specs.Overriding.{body_of}
+use Rattle.aom_link_conditions.specs.Roles.{or_else}
 use Rattle.aom_instructions.specs.declared.instr.Target.{Target}
 use Rattle.aom_instructions.specs.declared.instr.Target.TheVariants.{This, Register, Field, Entry}
 use Rattle.aom_cells.specs.Heap.{Heap, class_at, null}

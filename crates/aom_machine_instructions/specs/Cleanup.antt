@@ -9,11 +9,11 @@ use Rattle.aom_image.specs.declared.method.Gives.TheVariants.{Nothing, Word as A
 use Rattle.aom_cells.specs.Heap.{Heap, null, Lives, class_at}
 use Rattle.aom_frames.specs.declared.item.Item.{Item}
 use Rattle.aom_frames.specs.declared.item.Item.TheVariants.{Object, Operation, Mark}
-use Rattle.aom_rules.specs.Typing.{Typing}
+use Rattle.aom_typing_rules.specs.Typing.{Typing}
 use Rattle.aom_semantics.specs.Calls.{called, result_register}
 use Rattle.aom_semantics.specs.Cleanup.{arrival, unwound}
 use Rattle.aom_semantics.specs.State.{State, Task, Unwind, Goes}
-use Rattle.aom_safety.specs.Kept.{IsKept}
+use Rattle.aom_safety.specs.Kept.{StateInvariant}
 use Rattle.aom_safety.specs.WellTyped.{WellTyped}
 use Rattle.aom_machine_state.specs.LineBuffer.{LineBuffer}
 use Rattle.aom_frames.specs.Tasks.{fresh, with_register}
@@ -24,11 +24,11 @@ use Rattle.aom_machine_state.specs.Places.{with_items, with_tasks, next, set_reg
 use Rattle.aom_machine_state.specs.Agrees.{Agrees}
 
 -- an object is last
-abbrev pub TopsObject : List Item → Type 0
-TopsObject [] = ⊥
-TopsObject (Object n ∷ items) = Unit {0}
-TopsObject (Operation m w ∷ items) = ⊥
-TopsObject (Mark ∷ items) = ⊥
+abbrev pub TopMatchesObject : List Item → Type 0
+TopMatchesObject [] = ⊥
+TopMatchesObject (Object n ∷ items) = Unit {0}
+TopMatchesObject (Operation m w ∷ items) = ⊥
+TopMatchesObject (Mark ∷ items) = ⊥
 
 -- what is last lives, with its class, if it is an object
 abbrev pub ItemLives : Heap → List Item → Type 0
@@ -63,8 +63,8 @@ lost (A_maybe t) to m = set_register to null m
 lost (Left x) to m = m
 
 -- the method that called goes on with the code, in the register after the result's
-abbrev pub told : Image → Option Instr → ℤ → Parts → Parts
-told p i code m = next (set_register (suc (result_register i)) (cast_unsigned w32 code) (lost (called p i) (result_register i) m))
+abbrev pub reported : Image → Option Instr → ℤ → Parts → Parts
+reported p i code m = next (set_register (suc (result_register i)) (cast_unsigned w32 code) (lost (called p i) (result_register i) m))
 
 -- a machine that stands for a well-typed state in which a leave unwinds
 pub record In_unwinding (p : Image) (m : Parts) : Type 0 where
@@ -75,13 +75,13 @@ pub record In_unwinding (p : Image) (m : Parts) : Type 0 where
   pub top : state.tasks ≡ Unwind code ∷ below
   pub formed : WellFormed p
   pub typed : WellTyped p typing state
-  pub kept : IsKept p state
+  pub kept : StateInvariant p state
   pub agrees : Agrees p m state
 
 -- one move of it, with its line
 abbrev pub Unwinds : Image → Parts → Parts → LineBuffer → LineBuffer → Type 0
-Unwinds p old new told now =
+Unwinds p old new reported now =
     (h : In_unwinding p old) (u : State)
     → unwound p h.code h.below h.state h.state.items ≡ Goes u
     → WellTyped p h.typing u
-    → Agrees p new u × (now ≡ record told { lines = told.lines ++ arrival h.code h.state.items })
+    → Agrees p new u × (now ≡ record reported { lines = reported.lines ++ arrival h.code h.state.items })

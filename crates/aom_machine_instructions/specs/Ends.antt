@@ -16,7 +16,7 @@ use Rattle.aom_frames.specs.declared.dispatch.Subject.{Subject}
 use Rattle.aom_frames.specs.declared.task.Task.{Task}
 use Rattle.aom_frames.specs.declared.task.Task.TheVariants.{Run, Dispatched}
 use Rattle.aom_machine_state.specs.declared.parts.Parts.{Parts}
-use Rattle.aom_machine_instructions.specs.Going.{uprooted}
+use Rattle.aom_machine_instructions.specs.Going.{root_removed}
 use Rattle.aom_machine_state.specs.Places.{with_tasks}
 
 -- the root's destruction and its destructor find room there, and the root lives, if there is one
@@ -44,7 +44,7 @@ closed m = record m { stack = record m.stack { tasks = below_first m.stack.tasks
 
 -- but for the root, which is at hand to go then
 abbrev pub ended_dispatch : Image → Parts → Parts
-ended_dispatch p m = cond (m.rest.stopped && not (m.root == null)) (uprooted p m) (closed m)
+ended_dispatch p m = cond (m.rest.stopped && not (m.root == null)) (root_removed p m) (closed m)
 
 -- the dispatch of an object counts
 abbrev pub handled : Parts → Parts
@@ -87,14 +87,14 @@ served_by (Dispatched d ∷ ts) = Dispatched (served d) ∷ ts
 served_by ts = ts
 
 -- its `error` method has answered
-abbrev pub heard : ℤ → Dispatch → Dispatch
-heard answer (Asks x) = Answered x answer
-heard answer d = d
+abbrev pub observed : ℤ → Dispatch → Dispatch
+observed answer (Asks x) = Answered x answer
+observed answer d = d
 
 -- the answer, by the number in the register that the method returns
-abbrev pub told_by : Gives → ℕ → ℤ
-told_by A_word n = cast_signed w32 n
-told_by _ n = pos 0
+abbrev pub reported_by : Gives → ℕ → ℤ
+reported_by A_word n = cast_signed w32 n
+reported_by _ n = pos 0
 
 -- once `stop` was run the machine stays there until the next step, but where main left, where the root is gone, and where a server's dispatch is to end as an object's
 abbrev pub is_last : Dispatch → Bool

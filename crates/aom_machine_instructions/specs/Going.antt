@@ -3,7 +3,7 @@ use Rattle.std.specs.Prelude.{ℕ, Bool, cond, is_some, List, [], ◌∷◌, Opt
 use Rattle.aom_image.specs.Image.{Image}
 use Rattle.aom_image.specs.Views.{method_class}
 use Rattle.aom_image.specs.declared.method.Role.TheVariants.{Destruct}
-use Rattle.aom_classes.specs.Roles.{role_of}
+use Rattle.aom_link_conditions.specs.Roles.{role_of}
 use Rattle.aom_roles.specs.Classes.{sessions_in}
 use Rattle.aom_roles.specs.Shapes.{kind_of}
 use Rattle.aom_cells.specs.Heap.{Heap, null, class_at}
@@ -58,8 +58,8 @@ ending_here (Unwind code ∷ ts) = None
 ending_here (Dispatched d ∷ ts) = Some d
 
 -- the root is at hand to go, over the end of the run
-abbrev pub uprooted : Image → Parts → Parts
-uprooted p m =
+abbrev pub root_removed : Image → Parts → Parts
+root_removed p m =
     record m {
       stack = record m.stack { tasks = dying p m.cells m.root (Dispatched Root ∷ below_first m.stack.tasks) };
       root = null;

@@ -11,19 +11,19 @@ use Rattle.aom_image.specs.declared.method.Role.TheVariants.{Cancel}
 use Rattle.aom_roles.specs.Shapes.{kind_of}
 use Rattle.aom_cells.specs.Heap.{Lives, class_at}
 use Rattle.aom_scheduler.specs.Requests.{is_pending, request_at}
-use Rattle.aom_active.specs.Agrees.{Active}
-use Rattle.aom_active.specs.Meanings.{Makes, Times, begun_with, is_being_cancelled}
+use Rattle.aom_active_objects.specs.Agrees.{Active}
+use Rattle.aom_active_objects.specs.Meanings.{Makes, Times, begun_with, is_being_cancelled}
 use Rattle.aom_semantics.specs.Requests.{cancelled, due_after, completed_at_once}
 use Rattle.aom_semantics.specs.Natives.{started}
 use Rattle.aom_cells.specs.Sessions.{Standing, is_killed, is_open}
-use Rattle.aom_frames.specs.Tasks.{Runs, method_here}
+use Rattle.aom_frames.specs.Tasks.{TopFrameIs, method_here}
 use Rattle.aom_machine_state.specs.declared.parts.Parts.{Parts}
 use Rattle.aom_machine_state.specs.Fields.{this}
 
 -- a cancel may be over: the request is being cancelled, and is completed
 abbrev pub IsCancelled : Role → Parts → Type 0
 IsCancelled Cancel m =
-    Runs m.stack.tasks × Lives m.cells (this m) × IsTrue (is_being_cancelled (request_at m.active.table (this m))) × IsFalse (is_pending (request_at m.active.table (this m)))
+    TopFrameIs m.stack.tasks × Lives m.cells (this m) × IsTrue (is_being_cancelled (request_at m.active.table (this m))) × IsFalse (is_pending (request_at m.active.table (this m)))
 IsCancelled role m = Unit {0}
 
 -- as a method of that role is over
@@ -34,7 +34,7 @@ EndsCancel role old new id = new ≡ old
 -- the cancel that the method at its end may have to end is over
 pub record IsOver (p : Image) (m : Parts) (active : Active) : Type 0 where
   pub role : Role
-  pub plays : method_role p (method_here m.stack.tasks) ≡ Some role
+  pub fills_role : method_role p (method_here m.stack.tasks) ≡ Some role
   pub was : IsCancelled role m
   pub ends : EndsCancel role m.active active (this m)
 
@@ -48,8 +48,8 @@ provider_of (Some (An_active provider)) = Some provider
 provider_of _ = None
 
 -- a request of an object is made of that provider, where sessions stand so and a native has answered that
-abbrev pub Issues : Provider → Standing → (heard : ℤ) → (clock : ℕ) → ℤ → Active → Active → ℕ → Type 0
-Issues Own w heard clock a old new id = Makes old new id (completed_at_once a)
-Issues Timer w heard clock a old new id = Times old new id (due_after clock a)
-Issues A_token w heard clock a old new id = Makes old new id (completed_at_once a)
-Issues (Native n) w heard clock a old new id = Makes old new id (begun_with (started (is_killed w n) (is_open w id) heard))
+abbrev pub Issues : Provider → Standing → (observed : ℤ) → (clock : ℕ) → ℤ → Active → Active → ℕ → Type 0
+Issues Own w observed clock a old new id = Makes old new id (completed_at_once a)
+Issues Timer w observed clock a old new id = Times old new id (due_after clock a)
+Issues A_token w observed clock a old new id = Makes old new id (completed_at_once a)
+Issues (Native n) w observed clock a old new id = Makes old new id (begun_with (started (is_killed w n) (is_open w id) observed))

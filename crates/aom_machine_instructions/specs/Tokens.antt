@@ -1,14 +1,14 @@
 -- What becomes of tokens: one is handed out for a request, or there is no room for it, and one is replied to.
 use Rattle.std.specs.Prelude.{◌≡◌, ◌<◌, ◌+◌, ◌⊎◌, ℕ, ℤ, true, is_some, IfSome, IsSome, IsTrue, Some, None}
-use Rattle.aom_active.specs.Meanings.{Makes}
+use Rattle.aom_active_objects.specs.Meanings.{Makes}
 use Rattle.aom_cells.specs.Heap.{null}
 use Rattle.aom_clients.specs.Clients.{place_at}
 use Rattle.aom_clients.specs.Table.{completion}
 use Rattle.aom_machine_state.specs.LineBuffer.{LineBuffer}
-use Rattle.aom_cells.specs.Store.{Changes, IsKept, count, first_number, message_at}
+use Rattle.aom_cells.specs.Store.{Changes, IsStored, count, first_number, message_at}
 use Rattle.aom_machine_state.specs.declared.parts.Parts.{Parts}
 use Rattle.aom_machine_state.specs.Tokens as meant
-use Rattle.aom_machine_state.specs.Tokens.{LetsGo, no_words}
+use Rattle.aom_machine_state.specs.Tokens.{ClosesSession, no_words}
 use Rattle.aom_scheduler.specs.Requests.{is_pending, request_at}
 use Rattle.aom_semantics.specs.Requests.{completed_at_once}
 use Rattle.aom_semantics.specs.Tokens.{busy, promised}
@@ -26,34 +26,34 @@ pub record IsAnswerable (n : ℕ) (m : Parts) : Type 0 where
   pub place : ℕ
   pub number : first_number + place ≡ n
   pub below : place < 1024
-  pub kept : IsKept m.messages place
+  pub kept : IsStored m.messages place
   pub pends : Pends place m
   pub taken : class_at m.tokens place ≡ None → IsSome (completion (place_at m.clients place))
 
 -- the token at that place goes, and its place is free: the object that waits for it, if one does, waits no more
 pub record Redeems (place : ℕ) (code : ℤ) (old new : Parts) : Type 0 where
   pub freed : Sets old.tokens.places new.tokens.places place None
-  pub lets : LetsGo (redeemed old.tokens place) old.tokens new.tokens
+  pub lets : ClosesSession (redeemed old.tokens place) old.tokens new.tokens
   pub answers : meant.Redeems (redeemed old.tokens place) code old.active new.active
   pub released : Changes old.messages new.messages place None
   pub count : count new.messages + 1 ≡ count old.messages
   pub rest : new ≡ record old { active = new.active; messages = new.messages; tokens = new.tokens }
 
 -- so where the message of that number is a token, and no line is written
-pub record RedeemsOne (n : ℕ) (code : ℤ) (old new : Parts) (told now : LineBuffer) : Type 0 where
+pub record RedeemsOne (n : ℕ) (code : ℤ) (old new : Parts) (reported now : LineBuffer) : Type 0 where
   pub place : ℕ
   pub number : first_number + place ≡ n
   pub token : is_some (class_at old.tokens place) ≡ true
   pub redeems : Redeems place code old new
-  pub silent : now ≡ told
+  pub silent : now ≡ reported
 
 -- and else its client is told
-pub record CompletesOne (n : ℕ) (code : ℤ) (old new : Parts) (told now : LineBuffer) : Type 0 where
-  pub completes : Completes n code old new told now
+pub record CompletesOne (n : ℕ) (code : ℤ) (old new : Parts) (reported now : LineBuffer) : Type 0 where
+  pub completes : Completes n code old new reported now
   pub sent : class_at old.tokens completes.place ≡ None
 
-abbrev pub Answers : (n : ℕ) → ℤ → (old new : Parts) → (told now : LineBuffer) → Type 0
-Answers n code old new told now = RedeemsOne n code old new told now ⊎ CompletesOne n code old new told now
+abbrev pub Answers : (n : ℕ) → ℤ → (old new : Parts) → (reported now : LineBuffer) → Type 0
+Answers n code old new reported now = RedeemsOne n code old new reported now ⊎ CompletesOne n code old new reported now
 
 -- ---- a token is handed out
 

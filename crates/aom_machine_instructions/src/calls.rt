@@ -1,5 +1,5 @@
 //! Calls, returns, and `stop`.
-ghost use Rattle.aom_machine_instructions.specs.Ends.{heard, told_by};
+ghost use Rattle.aom_machine_instructions.specs.Ends.{observed, reported_by};
 ghost use Rattle.aom_machine_instructions.specs.Going.{ending_here};
 ghost use Rattle.aom_frames.specs.Items.{IsMarked};
 ghost use Rattle.aom_machine_state.specs.Places.{IsTrapped, with_tasks, next, set_register};
@@ -7,7 +7,7 @@ ghost use Rattle.aom_machine_state.specs.Room.{ReturnsTo};
 ghost use Rattle.aom_machine_instructions.specs.Requests.{EndsCancel, IsCancelled, IsOver};
 ghost use Rattle.aom_machine_state.specs.Fields.{this, ThisLives};
 ghost use Rattle.aom_frames.specs.declared.task.Task.TheVariants.{Dispatched};
-ghost use Rattle.aom_frames.specs.Tasks.{Runs, begun, below_first, fresh, method_here, place_here, with_view};
+ghost use Rattle.aom_frames.specs.Tasks.{TopFrameIs, begun, below_first, fresh, method_here, place_here, with_view};
 ghost use Rattle.std.specs.Prelude.{ℕ, suc, List, ◌<◌, ◌≤◌, ◌+◌, ◌^◌, ◌∷◌, ◌≡◌, ◌≢◌, IfSome, IsSome, Some, length, true};
 ghost use Rattle.aom_image.specs.Image.{Image};
 ghost use Rattle.aom_image.specs.Views.{gives_of, instr_at, method_at, method_class};
@@ -23,7 +23,7 @@ use crate::{going, servers};
 use aom_cells::NULL;
 use aom_frames::{Callee, Dispatch, Item, Task, TaskKind, View};
 use aom_image::{ClassNumber, Gives, Instr, MethodNumber, Register, Role, Target};
-use aom_linked::Linked;
+use aom_linker::Linked;
 use aom_machine_state::Parts;
 
 /// The register to which the result of a call comes.
@@ -49,7 +49,7 @@ pub fn callee_of(instr: Instr) -> Option<MethodNumber>
 
 /// The answer that a method gives, by the number in the register that it returns.
 fn answer_of(gives: Gives, number: u32) -> i32
-    ensures { result ≡ told_by gives number }
+    ensures { result ≡ reported_by gives number }
 {
     match gives {
         Gives::Word => number.cast_signed(),
@@ -59,8 +59,8 @@ fn answer_of(gives: Gives, number: u32) -> i32
 
 /// What a method that is called works on: the number of a cell, or null.
 fn target_of(parts: &Parts, target: Target, class: Option<ClassNumber>) -> u32
-    requires runs { Runs parts.now.stack.tasks }
-    requires housed { ThisLives parts.now }
+    requires runs { TopFrameIs parts.now.stack.tasks }
+    requires receiver_held { ThisLives parts.now }
     ensures { result ≡ target_here target class parts.now }
 {
     match target {
@@ -99,7 +99,7 @@ fn body_on(
 
 /// As what the object of a call counts: on self as it does for the method that runs, and else as its own class.
 fn view_on(parts: &Parts, on_self: bool) -> View
-    requires { Runs parts.now.stack.tasks }
+    requires { TopFrameIs parts.now.stack.tasks }
     ensures { result ≡ view_on on_self parts.now.stack.tasks }
 {
     if on_self {
@@ -119,8 +119,8 @@ fn reached(
     linked: &Linked,
 ) -> Callee
     requires there { IsSome (method_at linked.now method) }
-    requires runs { Runs parts.now.stack.tasks }
-    requires housed { ThisLives parts.now }
+    requires runs { TopFrameIs parts.now.stack.tasks }
+    requires receiver_held { ThisLives parts.now }
     requires lives { target_here target class parts.now ≢ null → Lives parts.now.cells (target_here target class parts.now) }
     requires small { IfSome (class_at parts.now.cells (target_here target class parts.now)) (λ class. class < 256) }
     ensures { begun result ≡ with_view (view_on (is_this target) parts.now.stack.tasks) (fresh (body_on linked.now method (target_here target class parts.now) (view_on (is_this target) parts.now.stack.tasks) parts.now.cells) (target_here target class parts.now)) }
@@ -143,8 +143,8 @@ fn callee(
 ) -> Callee
     requires there { IsSome (method_at linked.now method) }
     requires class { class ≡ method_class linked.now method }
-    requires runs { Runs parts.now.stack.tasks }
-    requires housed { ThisLives parts.now }
+    requires runs { TopFrameIs parts.now.stack.tasks }
+    requires receiver_held { ThisLives parts.now }
     requires lives { target_here target (method_class linked.now method) parts.now ≢ null → Lives parts.now.cells (target_here target (method_class linked.now method) parts.now) }
     requires small { IfSome (class_at parts.now.cells (target_here target (method_class linked.now method) parts.now)) (λ class. class < 256) }
     ensures { begun result ≡ callee_here linked.now target method parts.now }
@@ -188,7 +188,7 @@ pub fn trap(parts: &mut Parts, on: Target, method: MethodNumber, first: Register
 
 /// A result comes to a register, if the method gives one.
 fn take_result(parts: &mut Parts, to: u8, gives: Gives, number: u32)
-    requires runs { Runs parts.old.stack.tasks }
+    requires runs { TopFrameIs parts.old.stack.tasks }
     requires within { to < 16 }
     ensures { parts.new ≡ resulted gives to number parts.old }
 {
@@ -202,7 +202,7 @@ fn take_result(parts: &mut Parts, to: u8, gives: Gives, number: u32)
 
 /// A result comes to the method that called, which goes on.
 fn receive(parts: &mut Parts, gives: Gives, number: u32, linked: &Linked)
-    requires runs { Runs parts.old.stack.tasks }
+    requires runs { TopFrameIs parts.old.stack.tasks }
     requires there { IsSome (instr_at linked.now (method_here parts.old.stack.tasks) (place_here parts.old.stack.tasks)) }
     requires within { place_here parts.old.stack.tasks + 1 < 2 ^ 64 }
     ensures in_range { result_register (instr_at linked.now (method_here parts.old.stack.tasks) (place_here parts.old.stack.tasks)) < 16 }
@@ -216,7 +216,7 @@ fn receive(parts: &mut Parts, gives: Gives, number: u32, linked: &Linked)
 /// The same through its trap, with 0 for the code in the next register.
 #[inline]
 fn receive_trapped(parts: &mut Parts, gives: Gives, number: u32, linked: &Linked)
-    requires runs { Runs parts.old.stack.tasks }
+    requires runs { TopFrameIs parts.old.stack.tasks }
     requires there { IsSome (instr_at linked.now (method_here parts.old.stack.tasks) (place_here parts.old.stack.tasks)) }
     requires within { place_here parts.old.stack.tasks + 1 < 2 ^ 64 }
     requires coded { suc (result_register (instr_at linked.now (method_here parts.old.stack.tasks) (place_here parts.old.stack.tasks))) < 16 }
@@ -224,7 +224,7 @@ fn receive_trapped(parts: &mut Parts, gives: Gives, number: u32, linked: &Linked
 {
     let to = result_of(*parts.fetch(linked));
     take_result(parts, to, gives, number);
-    parts.stack.bring(to + 1, 0);
+    parts.stack.set_and_advance(to + 1, 0);
 }
 
 /// Where a method that cancels is over, the signal of the request is taken.
@@ -240,10 +240,10 @@ fn end_cancel(parts: &mut Parts, role: Role)
 }
 
 /// The dispatch that has asked hears the answer.
-fn hear(parts: &mut Parts, dispatch: Dispatch, gives: Gives, number: u32)
+fn deliver_answer(parts: &mut Parts, dispatch: Dispatch, gives: Gives, number: u32)
     requires ending { ending_here parts.old.stack.tasks ≡ Some dispatch }
     requires room { length parts.old.stack.tasks ≤ parts.old.stack.depth }
-    ensures { parts.new ≡ with_tasks (Dispatched (heard (told_by gives number) dispatch) ∷ below_first parts.old.stack.tasks) parts.old }
+    ensures { parts.new ≡ with_tasks (Dispatched (observed (reported_by gives number) dispatch) ∷ below_first parts.old.stack.tasks) parts.old }
 {
     let Dispatch::Asks(subject) = dispatch else {
         return;
@@ -274,10 +274,10 @@ fn end_method(parts: &mut Parts, linked: &Linked) -> Gives
 /// A method returns: to the one that called it, through a trap to it or to the dispatch, to the going of its cell, to an unwinding, or to
 /// the dispatch that has asked it.
 #[inline(always)]
-pub fn give_back(parts: &mut Parts, from: Register, linked: &Linked) -> bool
+pub fn return_from(parts: &mut Parts, from: Register, linked: &Linked) -> bool
     requires { IsNext linked.now (Return from) parts.old }
     ensures does { (refused : List ℕ) → DoesIn linked.now refused (Return from) parts.old parts.new }
-    ensures runs { result ≡ true → Runs parts.new.stack.tasks }
+    ensures runs { result ≡ true → TopFrameIs parts.new.stack.tasks }
 {
     let number = parts.register(from);
     let method = parts.stack.method();
@@ -299,12 +299,12 @@ pub fn give_back(parts: &mut Parts, from: Register, linked: &Linked) -> bool
             }
         }
         Some(TaskKind::Destroy(cell)) => {
-            going::go_up(parts, method, cell, linked);
+            going::continue_destruction(parts, method, cell, linked);
             false
         }
         Some(TaskKind::Unwind(_)) => false,
         Some(TaskKind::Dispatched(dispatch)) => {
-            hear(parts, dispatch, gives, number);
+            deliver_answer(parts, dispatch, gives, number);
             false
         }
         Some(TaskKind::Closing) => unreachable!(),

@@ -1,6 +1,6 @@
 //! Instructions on the cleanup stack.
 ghost use Rattle.std.specs.Prelude.{◌≡◌, ◌<◌, ◌+◌, ℕ, List, length, true};
-ghost use Rattle.aom_frames.specs.Tasks.{Runs};
+ghost use Rattle.aom_frames.specs.Tasks.{TopFrameIs};
 ghost use Rattle.aom_frames.specs.Items.{IsAboveMark};
 ghost use Rattle.aom_image.specs.Image.{Image};
 ghost use Rattle.aom_instructions.specs.declared.instr.Instr.TheVariants.{Push, PushOperation, Pop, PopOperation, PopDelete, NewOrLeave};
@@ -13,7 +13,7 @@ use crate::leaving::{self, NO_MEMORY};
 use aom_cells::NULL;
 use aom_frames::{Frame, Item, Task};
 use aom_image::{ClassNumber, MethodNumber, Register};
-use aom_linked::Linked;
+use aom_linker::Linked;
 use aom_machine_state::{LineBuffer, Parts};
 
 /// An object goes from a register to the cleanup stack. Where the request is refused, the method leaves then.
@@ -21,11 +21,11 @@ use aom_machine_state::{LineBuffer, Parts};
 pub fn push(parts: &mut Parts, from: Register, lines: &LineBuffer) -> bool
     requires { (p : Image) × IsNext p (Push from) parts.old }
     ensures does { Does lines.now.refused (Push from) parts.old parts.new }
-    ensures runs { result ≡ true → Runs parts.new.stack.tasks }
+    ensures runs { result ≡ true → TopFrameIs parts.new.stack.tasks }
 {
     let refused = parts.request(lines);
     let object = parts.register(from);
-    parts.bring(from, NULL);
+    parts.set_and_advance(from, NULL);
     parts.entries.push_object(object);
     if refused {
         leaving::leave(parts, NO_MEMORY);
@@ -55,7 +55,7 @@ pub fn pop(parts: &mut Parts, to: Register)
     ensures { (refused : List ℕ) → Does refused (Pop to) parts.old parts.new }
 {
     match parts.entries.pop() {
-        Some(Item::Object(object)) => parts.bring(to, object),
+        Some(Item::Object(object)) => parts.set_and_advance(to, object),
         _ => unreachable!(),
     }
 }
@@ -116,13 +116,13 @@ pub fn create_or_leave(
 ) -> bool
     requires { (p : Image) × IsNext p (NewOrLeave to class) parts.old }
     ensures does { Does lines.now.refused (NewOrLeave to class) parts.old parts.new }
-    ensures runs { result ≡ true → Runs parts.new.stack.tasks }
+    ensures runs { result ≡ true → TopFrameIs parts.new.stack.tasks }
 {
     if parts.request_cell(lines) {
         leaving::leave(parts, NO_MEMORY);
         return false;
     }
     let number = parts.new_cell(class, false);
-    parts.bring(to, number);
+    parts.set_and_advance(to, number);
     true
 }

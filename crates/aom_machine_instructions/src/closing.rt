@@ -1,6 +1,6 @@
 //! How a dispatch ends.
 ghost use Rattle.std.specs.Prelude.{◌≡◌, ◌<◌, Some, length, true};
-ghost use Rattle.aom_classes.specs.Roles.{role_of};
+ghost use Rattle.aom_link_conditions.specs.Roles.{role_of};
 ghost use Rattle.aom_image.specs.declared.method.Role.TheVariants.{Error};
 ghost use Rattle.aom_machine_instructions.specs.Ends.{CanEnd, ended_answered, ended_dispatch, asking, handled};
 ghost use Rattle.aom_machine_instructions.specs.Going.{ending_here};
@@ -11,7 +11,7 @@ use crate::{going, servers};
 use aom_cells::NULL;
 use aom_frames::{Dispatch, Frame, Subject, Task};
 use aom_image::Role;
-use aom_linked::Linked;
+use aom_linker::Linked;
 use aom_machine_state::{LineBuffer, Parts};
 
 /// Nothing of the dispatch is left. Where `stop` was run, the root is at hand to go, if there is one.
@@ -20,7 +20,7 @@ fn end_dispatch(parts: &mut Parts, linked: &Linked)
     ensures { parts.new ≡ ended_dispatch linked.now parts.old }
 {
     if parts.rest.is_stopped() && parts.root != NULL {
-        going::uproot(parts, linked);
+        going::remove_root(parts, linked);
     } else {
         parts.drop_task();
         parts.rest.close();

@@ -25,7 +25,7 @@ pub fn take(parts: &mut Parts, to: Register, field: FieldIndex)
     ensures { (refused : List ℕ) → Does refused (Take to field) parts.old parts.new }
 {
     let number = parts.take_field(field);
-    parts.bring(to, number);
+    parts.set_and_advance(to, number);
 }
 
 pub fn put(parts: &mut Parts, field: FieldIndex, from: Register)
@@ -34,5 +34,5 @@ pub fn put(parts: &mut Parts, field: FieldIndex, from: Register)
 {
     let number = parts.register(from);
     parts.set_field(field, number);
-    parts.bring(from, NULL);
+    parts.set_and_advance(from, NULL);
 }

@@ -4,7 +4,7 @@ ghost use Rattle.aom_image.specs.Views.{method_at};
 ghost use Rattle.aom_cells.specs.Heap.{Lives, class_at};
 ghost use Rattle.aom_instructions.specs.declared.instr.Instr.TheVariants.{Delete};
 ghost use Rattle.aom_clients.specs.Clients.{queue_at};
-ghost use Rattle.aom_frames.specs.Tasks.{Runs, place_here, below_first};
+ghost use Rattle.aom_frames.specs.Tasks.{TopFrameIs, place_here, below_first};
 ghost use Rattle.aom_frames.specs.declared.task.Task.{Task as TaskRecord};
 ghost use Rattle.aom_frames.specs.declared.task.Task.TheVariants.{Destroy};
 ghost use Rattle.aom_frames.specs.Views.{view_in};
@@ -12,10 +12,10 @@ ghost use Rattle.aom_semantics.specs.Destruction.{next_destructor};
 ghost use Rattle.aom_machine_instructions.specs.Acts.{CanGo, DoesIn, GoesAway, going_at, standing};
 ghost use Rattle.aom_machine_instructions.specs.declared.after.After.TheVariants.{CellGoes, RunsOn};
 ghost use Rattle.aom_machine_state.specs.Places.{next, with_tasks, IsClosing, IsDestroying, going_here};
-ghost use Rattle.aom_machine_instructions.specs.Going.{begun, destructed, destructor_frame, destructor_in, dying, is_server_class, uprooted};
+ghost use Rattle.aom_machine_instructions.specs.Going.{begun, destructed, destructor_frame, destructor_in, dying, is_server_class, root_removed};
 ghost use Rattle.aom_machine_instructions.specs.Moves.{Moves};
 ghost use Rattle.aom_machine_instructions.specs.Next.{IsNext};
-ghost use Rattle.aom_machine_instructions.specs.Serving.{CanVanish, answers};
+ghost use Rattle.aom_machine_instructions.specs.Serving.{CanReclaim, answers};
 ghost use Rattle.aom_machine_state.specs.LineBuffer.{LineBuffer as LineBufferRecord};
 ghost use Rattle.aom_machine_state.specs.Stands.{Stands};
 
@@ -24,7 +24,7 @@ use crate::servers;
 use aom_cells::NULL;
 use aom_frames::{Dispatch, Frame, Task, TaskKind, View};
 use aom_image::{ClassNumber, MethodNumber, Register, Role};
-use aom_linked::Linked;
+use aom_linker::Linked;
 use aom_machine_state::{LineBuffer, Parts};
 use aom_roles::{parent_of, sessions_at};
 use aom_transcript::Line;
@@ -75,7 +75,12 @@ fn next_destructor(destructor: MethodNumber, linked: &Linked) -> Option<MethodNu
 }
 
 /// A destructor of a cell is over: the next of its line runs, if there is one.
-pub fn go_up(parts: &mut Parts, destructor: MethodNumber, number: u32, linked: &Linked)
+pub fn continue_destruction(
+    parts: &mut Parts,
+    destructor: MethodNumber,
+    number: u32,
+    linked: &Linked,
+)
     requires there { IsSome (method_at linked.now destructor) }
     requires room { length parts.old.stack.tasks < parts.old.stack.depth }
     ensures { parts.new ≡ with_tasks (destructed linked.now (next_destructor linked.now destructor) number parts.old.stack.tasks) parts.old }
@@ -127,7 +132,7 @@ fn goes_at_once(class: ClassNumber, linked: &Linked) -> bool
 pub fn delete(parts: &mut Parts, from: Register, linked: &Linked) -> After
     requires { IsNext linked.now (Delete from) parts.old }
     ensures does { (refused : List ℕ) → DoesIn linked.now refused (Delete from) parts.old (standing result parts.new) }
-    ensures runs { result ≡ RunsOn → Runs parts.new.stack.tasks }
+    ensures runs { result ≡ RunsOn → TopFrameIs parts.new.stack.tasks }
     ensures goes { (number : ℕ) → result ≡ CellGoes number → CanGo parts.new }
 {
     let number = parts.take_register(from);
@@ -143,11 +148,11 @@ pub fn delete(parts: &mut Parts, from: Register, linked: &Linked) -> After
 }
 
 /// The root is at hand to go, and nothing else is.
-pub fn uproot(parts: &mut Parts, linked: &Linked)
+pub fn remove_root(parts: &mut Parts, linked: &Linked)
     requires lives { Lives parts.old.cells parts.old.root }
     requires small { IfSome (class_at parts.old.cells parts.old.root) (λ class. class < 256) }
     requires room { length (below_first parts.old.stack.tasks) + 2 < parts.old.stack.depth }
-    ensures { parts.new ≡ uprooted linked.now parts.old }
+    ensures { parts.new ≡ root_removed linked.now parts.old }
 {
     let root = parts.root;
     parts.root = NULL;
@@ -182,11 +187,11 @@ fn going_number(parts: &Parts) -> u32
 }
 
 /// The first session with the server whose going is at hand goes before it, and once none is left the server's destructor runs.
-pub fn let_go(parts: &mut Parts, linked: &Linked)
+pub fn close_next_session(parts: &mut Parts, linked: &Linked)
     requires closing { IsClosing parts.old.stack.tasks }
     requires announced { parts.old.rest.announced ≡ true }
     requires stands { Stands (record { image = linked.now; parts = parts.old }) }
-    ensures { (told : LineBufferRecord) → Moves linked.now parts.old told told parts.new }
+    ensures { (reported : LineBufferRecord) → Moves linked.now parts.old reported reported parts.new }
 {
     parts.drop_task();
     let number = going_number(parts);
@@ -205,14 +210,14 @@ pub fn let_go(parts: &mut Parts, linked: &Linked)
 /// The cell of that number goes, and with a server all that waits in its queue. The method that is at hand goes on, if there is one.
 /// The task of its going is not on the stack.
 #[inline(always)]
-pub fn vanish(parts: &mut Parts, number: u32, lines: &mut LineBuffer)
+pub fn reclaim(parts: &mut Parts, number: u32, lines: &mut LineBuffer)
     requires lives { Lives parts.old.cells number }
     requires small { IfSome (class_at parts.old.cells number) (λ class. class < 256) }
-    requires vanishes { CanVanish number parts.old }
+    requires reclaims { CanReclaim number parts.old }
     requires within { place_here parts.old.stack.tasks + 1 < 2 ^ 64 }
     requires room { length lines.old.lines + answers (queue_at parts.old.clients number) < lines.old.room }
     ensures gone { GoesAway (going_at number parts.old) parts.new lines.old lines.new }
-    ensures runs { Runs parts.old.stack.tasks → Runs parts.new.stack.tasks }
+    ensures runs { TopFrameIs parts.old.stack.tasks → TopFrameIs parts.new.stack.tasks }
 {
     servers::end_server(parts, number as u16, lines);
     let class = parts.release(number);

@@ -6,9 +6,9 @@ ghost use Rattle.aom_image.specs.Views.{instr_at};
 ghost use Rattle.aom_instructions.specs.declared.instr.Instr.TheVariants.{Leave, LeaveIf};
 ghost use Rattle.aom_frames.specs.Items.{IsMarked};
 ghost use Rattle.aom_semantics.specs.Calls.{called, result_register};
-ghost use Rattle.aom_frames.specs.Tasks.{Runs, method_here, place_here, below_first};
+ghost use Rattle.aom_frames.specs.Tasks.{TopFrameIs, method_here, place_here, below_first};
 ghost use Rattle.aom_machine_instructions.specs.Acts.{Does, leaving};
-ghost use Rattle.aom_machine_instructions.specs.Cleanup.{Unwinds, lost, told};
+ghost use Rattle.aom_machine_instructions.specs.Cleanup.{Unwinds, lost, reported};
 ghost use Rattle.aom_machine_instructions.specs.Next.{IsNext};
 ghost use Rattle.aom_machine_state.specs.Places.{IsTrapped, IsUnwinding, code_here, IsEnding, with_tasks};
 ghost use Rattle.aom_machine_state.specs.Room.{CalleeThere, CallsThere, ReturnsTo};
@@ -20,7 +20,7 @@ use crate::{cleanup, servers};
 use aom_cells::NULL;
 use aom_frames::{Dispatch, Stage, Task, TaskKind};
 use aom_image::{Gives, Instr, Register};
-use aom_linked::Linked;
+use aom_linker::Linked;
 use aom_machine_state::{LineBuffer, Parts};
 use aom_transcript::Line;
 
@@ -30,7 +30,7 @@ pub const NO_MEMORY: i32 = -4;
 /// The methods over the innermost trap end, and a leave is at hand in their place.
 #[inline(always)]
 pub fn leave(parts: &mut Parts, code: i32)
-    requires runs { Runs parts.old.stack.tasks }
+    requires runs { TopFrameIs parts.old.stack.tasks }
     requires room { length parts.old.stack.tasks ≤ parts.old.stack.depth }
     ensures { parts.new ≡ leaving code parts.old }
 {
@@ -51,7 +51,7 @@ pub fn leave_with(parts: &mut Parts, from: Register)
 pub fn leave_if(parts: &mut Parts, from: Register) -> bool
     requires { (p : Image) × IsNext p (LeaveIf from) parts.old }
     ensures does { (refused : List ℕ) → Does refused (LeaveIf from) parts.old parts.new }
-    ensures runs { result ≡ true → Runs parts.new.stack.tasks }
+    ensures runs { result ≡ true → TopFrameIs parts.new.stack.tasks }
 {
     let code = parts.word(from);
     if code < 0 {
@@ -119,7 +119,7 @@ fn leave_dispatch(parts: &mut Parts, code: i32)
 
 /// A result does not come: its register has null, or 0 for a word.
 fn lose_result(parts: &mut Parts, to: u8, gives: Gives)
-    requires runs { Runs parts.old.stack.tasks }
+    requires runs { TopFrameIs parts.old.stack.tasks }
     requires within { to < 16 }
     ensures { parts.new ≡ lost gives to parts.old }
 {
@@ -132,18 +132,18 @@ fn lose_result(parts: &mut Parts, to: u8, gives: Gives)
 
 /// A method that called under a trap goes on with the code, and with null or 0 for the result.
 fn receive_code(parts: &mut Parts, code: i32, linked: &Linked)
-    requires runs { Runs parts.old.stack.tasks }
+    requires runs { TopFrameIs parts.old.stack.tasks }
     requires there { IsSome (instr_at linked.now (method_here parts.old.stack.tasks) (place_here parts.old.stack.tasks)) }
     requires within { place_here parts.old.stack.tasks + 1 < 2 ^ 64 }
     requires coded { suc (result_register (instr_at linked.now (method_here parts.old.stack.tasks) (place_here parts.old.stack.tasks))) < 16 }
     requires calls { CalleeThere linked.now (instr_at linked.now (method_here parts.old.stack.tasks) (place_here parts.old.stack.tasks)) }
-    ensures { parts.new ≡ told linked.now (instr_at linked.now (method_here parts.old.stack.tasks) (place_here parts.old.stack.tasks)) code parts.old }
+    ensures { parts.new ≡ reported linked.now (instr_at linked.now (method_here parts.old.stack.tasks) (place_here parts.old.stack.tasks)) code parts.old }
 {
     let instr = parts.fetch(linked);
     let to = result_of(*instr);
     let gives = called_gives(*instr, linked);
     lose_result(parts, to, gives);
-    parts.stack.bring(to + 1, code.cast_unsigned());
+    parts.stack.set_and_advance(to + 1, code.cast_unsigned());
 }
 
 /// A dispatch that is left with that code.

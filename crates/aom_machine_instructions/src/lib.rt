@@ -23,7 +23,7 @@ mod words;
 
 pub use after::After;
 pub use closing::close;
-pub use going::{begin, let_go, vanish};
+pub use going::{begin, close_next_session, reclaim};
 pub use leaving::unwind;
 pub use natives::TERMINATED;
 pub use performing::perform;

@@ -3,13 +3,13 @@ ghost use Rattle.std.specs.Prelude.{◌≡◌, ◌<◌, ◌≤◌, ℕ, List, So
 ghost use Rattle.aom_cells.specs.Heap.{null};
 ghost use Rattle.aom_image.specs.Image.{Image};
 ghost use Rattle.aom_instructions.specs.declared.instr.Instr.TheVariants.{Hand, Reply, TakeMessage};
-ghost use Rattle.aom_machine_instructions.specs.Acts.{Does, Tells};
+ghost use Rattle.aom_machine_instructions.specs.Acts.{Does, WritesLines};
 ghost use Rattle.aom_machine_instructions.specs.Next.{IsNext};
 ghost use Rattle.aom_machine_instructions.specs.Serving.{Completes, IsTaken, completion_line};
 ghost use Rattle.aom_machine_instructions.specs.Tokens.{Answers, Hands, IsAnswerable, Pends, Redeems};
-ghost use Rattle.aom_cells.specs.Store.{IsKept};
+ghost use Rattle.aom_cells.specs.Store.{IsStored};
 ghost use Rattle.aom_scheduler.specs.Requests.{state_at};
-ghost use Rattle.aom_scheduler.specs.declared.request.State.{State};
+ghost use Rattle.aom_scheduler.specs.declared.request.RequestState.{RequestState};
 
 use aom_cells::{CellId, MessageId, NULL};
 use aom_clients::Completion;
@@ -38,7 +38,7 @@ pub fn take_message(parts: &mut Parts, to: Register)
     ensures { (refused : List ℕ) → Does refused (TakeMessage to) parts.old parts.new }
 {
     let message = take_served(parts);
-    parts.bring(to, message);
+    parts.set_and_advance(to, message);
 }
 
 /// A register's message is completed with the word of another register.
@@ -46,7 +46,7 @@ pub fn reply(parts: &mut Parts, from: Register, code: Register, lines: &mut Line
     requires next { (p : Image) × IsNext p (Reply from code) parts.old }
     requires room { length lines.old.lines < lines.old.room }
     ensures does { (refused : List ℕ) → Does refused (Reply from code) parts.old parts.new }
-    ensures tells { Tells (Reply from code) parts.old lines.old lines.new }
+    ensures reports { WritesLines (Reply from code) parts.old lines.old lines.new }
 {
     let code = parts.word(code);
     let message = parts.take_register(from);
@@ -70,7 +70,7 @@ fn answer(parts: &mut Parts, number: u32, code: i32, lines: &mut LineBuffer)
 
 /// A token goes, and its place is free. The request that waits for it, if one does, is completed with that code.
 fn redeem(parts: &mut Parts, token: MessageId, code: i32)
-    requires kept { IsKept parts.old.messages token }
+    requires kept { IsStored parts.old.messages token }
     requires pends { Pends token parts.old }
     ensures { Redeems token code parts.old parts.new }
 {
@@ -90,12 +90,12 @@ pub fn hand(parts: &mut Parts, to: Register)
     let id = parts.cells.living(parts.stack.this());
     let class = parts.class(id.number());
     let token = hand_out(parts, id, class);
-    parts.bring(to, token);
+    parts.set_and_advance(to, token);
 }
 
 /// A token for the request of that object, which is of that class: its number, or null where no message place is free.
 fn hand_out(parts: &mut Parts, id: CellId, class: ClassNumber) -> u32
-    requires idle { state_at parts.old.active.table id ≡ Some State.Idle }
+    requires idle { state_at parts.old.active.table id ≡ Some RequestState.Idle }
     requires object { id < length parts.old.tokens.living }
     requires places { parts.old.messages.limit ≤ length parts.old.tokens.places }
     ensures { Hands result id class parts.old parts.new }
@@ -125,7 +125,7 @@ pub fn complete(parts: &mut Parts, number: u32, code: i32, lines: &mut LineBuffe
 fn completion_line(completion: Completion, code: i32) -> Line
     ensures { result ≡ completion_line completion code }
 {
-    if completion.is_told {
+    if completion.is_reported {
         Line::Reply(completion.client, code)
     } else {
         Line::Discard(completion.client, code)

@@ -26,7 +26,7 @@ pub fn move_to(parts: &mut Parts, to: Register, from: Register)
     ensures { (refused : List ℕ) → Does refused (Move to from) parts.old parts.new }
 {
     let object = parts.take_register(from);
-    parts.bring(to, object);
+    parts.set_and_advance(to, object);
 }
 
 #[inline(always)]
@@ -36,5 +36,5 @@ pub fn create(parts: &mut Parts, to: Register, class: ClassNumber, lines: &LineB
 {
     let refused = parts.request_cell(lines);
     let number = parts.new_cell(class, refused);
-    parts.bring(to, number);
+    parts.set_and_advance(to, number);
 }

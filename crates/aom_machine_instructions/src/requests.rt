@@ -2,27 +2,27 @@
 ghost use Rattle.aom_semantics.specs.Requests.{due_after};
 ghost use Rattle.std.specs.Prelude.{◌≡◌, ◌<◌, ◌+◌, ◌^◌, ℕ, IfSome, List, Some, cond, true};
 ghost use Rattle.aom_cells.specs.Heap.{class_at};
-ghost use Rattle.aom_classes.specs.Roles.{or_else};
-ghost use Rattle.aom_frames.specs.Tasks.{Runs, place_here};
+ghost use Rattle.aom_link_conditions.specs.Roles.{or_else};
+ghost use Rattle.aom_frames.specs.Tasks.{TopFrameIs, place_here};
 ghost use Rattle.aom_frames.specs.Views.{class_above};
 ghost use Rattle.aom_image.specs.Image.{Image};
 ghost use Rattle.aom_instructions.specs.declared.instr.Instr.TheVariants.{Abort, Cancel, Enlist, Issue, JumpActive, JumpAdded, SetActive, Status};
 ghost use Rattle.aom_roles.specs.Kinds.{is_active_kind};
 ghost use Rattle.aom_machine_instructions.specs.Acts.{Does, DoesIn};
-ghost use Rattle.aom_machine_state.specs.Agrees.{heard_by};
+ghost use Rattle.aom_machine_state.specs.Agrees.{observed_by};
 ghost use Rattle.aom_machine_state.specs.Places.{next, to_place};
 ghost use Rattle.aom_machine_state.specs.Fields.{this};
 ghost use Rattle.aom_machine_instructions.specs.Next.{IsNext};
 ghost use Rattle.aom_machine_instructions.specs.Requests.{Issues, kind_here, provider_of};
 ghost use Rattle.aom_scheduler.specs.Requests.{state_at, status_at};
-ghost use Rattle.aom_scheduler.specs.declared.request.State.{State};
+ghost use Rattle.aom_scheduler.specs.declared.request.RequestState.{RequestState};
 ghost use Rattle.aom_semantics.specs.Words.{word_or_zero};
 
 use crate::{going, natives};
 use aom_cells::CellId;
 use aom_frames::{Frame, Task, View};
 use aom_image::{ClassKind, ClassNumber, InstrPlace, Provider, Register, Role};
-use aom_linked::Linked;
+use aom_linker::Linked;
 use aom_machine_state::Parts;
 
 /// A time so long after another, where a negative interval is none. Times stay at their greatest value.
@@ -34,7 +34,7 @@ fn due_after(clock: u64, interval: i32) -> u64
 
 /// The method goes on at that place where a test holds, and else at its next one.
 fn jump_if(parts: &mut Parts, holds: bool, place: InstrPlace)
-    requires runs { Runs parts.old.stack.tasks }
+    requires runs { TopFrameIs parts.old.stack.tasks }
     requires within { place_here parts.old.stack.tasks + 1 < 2 ^ 64 }
     ensures { parts.new ≡ cond holds (to_place place parts.old) (next parts.old) }
 {
@@ -98,7 +98,7 @@ pub fn enlist(parts: &mut Parts, priority: i32, linked: &Linked)
 
 /// What the method's object makes its requests of.
 pub fn provider(parts: &Parts, linked: &Linked) -> Provider
-    requires runs { Runs parts.now.stack.tasks }
+    requires runs { TopFrameIs parts.now.stack.tasks }
     requires small { IfSome (class_at parts.now.cells (this parts.now)) (λ class. class < 256) }
     requires active { is_active_kind (kind_here linked.now parts.now) ≡ true }
     ensures { provider_of (kind_here linked.now parts.now) ≡ Some result }
@@ -112,8 +112,8 @@ pub fn provider(parts: &Parts, linked: &Linked) -> Provider
 
 /// A request is made: one's own is completed at once with that code, a timer's once that interval is over, and a native's as it answers.
 fn make_request(parts: &mut Parts, id: CellId, provider: Provider, word: i32)
-    requires idle { state_at parts.old.active.table id ≡ Some State.Idle }
-    ensures made { Issues provider parts.old.sessions (heard_by parts.old) parts.old.rest.clock word parts.old.active parts.new.active id }
+    requires idle { state_at parts.old.active.table id ≡ Some RequestState.Idle }
+    ensures made { Issues provider parts.old.sessions (observed_by parts.old) parts.old.rest.clock word parts.old.active parts.new.active id }
     ensures rest { parts.new ≡ record parts.old { active = parts.new.active } }
 {
     match provider {

@@ -1,7 +1,7 @@
 //! What the dispatch of a server makes of its client, and what goes with a server.
 ghost use Rattle.std.specs.Prelude.{◌≡◌, ◌<◌, ◌≤◌, ◌+◌, ◌++◌, ◌∷◌, [], IfSome, length};
 ghost use Rattle.aom_clients.specs.Clients.{IsNumbered, first_there, queue_at, queue_gone, server_gone, sessions_at, sessions_gone};
-ghost use Rattle.aom_machine_instructions.specs.Serving.{CanEndStage, CanServe, CanVanish, Drops, EndsStage, EntryKept, answers, gone_line, gone_lines, released_by, served, session_there};
+ghost use Rattle.aom_machine_instructions.specs.Serving.{CanEndStage, CanServe, CanReclaim, Drops, EndsStage, EntryKept, answers, gone_line, gone_lines, released_by, served, session_there};
 ghost use Rattle.aom_frames.specs.Tasks.{below_first};
 ghost use Rattle.aom_frames.specs.declared.task.Task.TheVariants.{Dispatched};
 ghost use Rattle.aom_machine_state.specs.Places.{IsEnding, with_tasks};
@@ -9,7 +9,7 @@ ghost use Rattle.aom_machine_state.specs.Places.{IsEnding, with_tasks};
 use crate::messages;
 use crate::natives::TERMINATED;
 use aom_cells::MessageId;
-use aom_clients::{Clients, QueueEntry, Taken};
+use aom_clients::{Clients, QueueEntry, TakenEntry};
 use aom_frames::{Dispatch, Stage, Task, TaskKind};
 use aom_machine_state::{LineBuffer, Parts};
 use aom_transcript::Line;
@@ -61,7 +61,7 @@ pub fn end_stage(parts: &mut Parts, client: u8, stage: Stage, lines: &mut LineBu
             let message = messages::take_served(parts);
             messages::complete(parts, message, code, lines);
         }
-        Stage::Parts => parts.clients.closed(client),
+        Stage::Disconnects => parts.clients.closed(client),
     }
 }
 
@@ -80,12 +80,12 @@ pub fn take_session(parts: &mut Parts, server: u16) -> Option<u32>
 /// All that waits in the queue of a server goes with it, and the sessions with it end. Of most cells there is none, which is seen at once.
 #[inline(always)]
 pub fn end_server(parts: &mut Parts, server: u16, lines: &mut LineBuffer)
-    requires can { CanVanish server parts.old }
+    requires can { CanReclaim server parts.old }
     requires room { length lines.old.lines + answers (queue_at parts.old.clients server) ≤ lines.old.room }
     ensures clients { parts.new.clients ≡ server_gone server parts.old.clients }
     ensures messages { Drops (queue_at parts.old.clients server) parts.old.messages parts.new.messages }
     ensures rest { parts.new ≡ record parts.old { clients = parts.new.clients; messages = parts.new.messages } }
-    ensures told { lines.new ≡ record lines.old { lines = lines.old.lines ++ gone_lines parts.old.clients (queue_at parts.old.clients server) } }
+    ensures reported { lines.new ≡ record lines.old { lines = lines.old.lines ++ gone_lines parts.old.clients (queue_at parts.old.clients server) } }
 {
     end_queue(parts, server, lines);
     end_sessions(&mut parts.clients, server);
@@ -94,14 +94,14 @@ pub fn end_server(parts: &mut Parts, server: u16, lines: &mut LineBuffer)
 /// What waits in the queue of a server goes with it, if anything does.
 #[inline(always)]
 fn end_queue(parts: &mut Parts, server: u16, lines: &mut LineBuffer)
-    requires can { CanVanish server parts.old }
+    requires can { CanReclaim server parts.old }
     requires room { length lines.old.lines + answers (queue_at parts.old.clients server) ≤ lines.old.room }
     ensures clients { parts.new.clients ≡ queue_gone server (queue_at parts.old.clients server) parts.old.clients }
     ensures empty { queue_at parts.new.clients server ≡ [] }
     ensures within { server < length parts.new.clients.queues }
     ensures messages { Drops (queue_at parts.old.clients server) parts.old.messages parts.new.messages }
     ensures rest { parts.new ≡ record parts.old { clients = parts.new.clients; messages = parts.new.messages } }
-    ensures told { lines.new ≡ record lines.old { lines = lines.old.lines ++ gone_lines parts.old.clients (queue_at parts.old.clients server) } }
+    ensures reported { lines.new ≡ record lines.old { lines = lines.old.lines ++ gone_lines parts.old.clients (queue_at parts.old.clients server) } }
 {
     if parts.clients.is_queued(server) {
         end_entries(parts, server, lines);
@@ -111,28 +111,28 @@ fn end_queue(parts: &mut Parts, server: u16, lines: &mut LineBuffer)
 /// What waits in the queue of a server goes with it, the first first.
 #[inline(never)]
 fn end_entries(parts: &mut Parts, server: u16, lines: &mut LineBuffer)
-    requires can { CanVanish server parts.old }
+    requires can { CanReclaim server parts.old }
     requires room { length lines.old.lines + answers (queue_at parts.old.clients server) ≤ lines.old.room }
     ensures clients { parts.new.clients ≡ queue_gone server (queue_at parts.old.clients server) parts.old.clients }
     ensures empty { queue_at parts.new.clients server ≡ [] }
     ensures within { server < length parts.new.clients.queues }
     ensures messages { Drops (queue_at parts.old.clients server) parts.old.messages parts.new.messages }
     ensures rest { parts.new ≡ record parts.old { clients = parts.new.clients; messages = parts.new.messages } }
-    ensures told { lines.new ≡ record lines.old { lines = lines.old.lines ++ gone_lines parts.old.clients (queue_at parts.old.clients server) } }
+    ensures reported { lines.new ≡ record lines.old { lines = lines.old.lines ++ gone_lines parts.old.clients (queue_at parts.old.clients server) } }
 {
-    while let Some(taken) = parts.clients.next_gone(server) {
+    while let Some(taken) = parts.clients.take_from_destroyed(server) {
         end_entry(parts, taken, lines);
     }
 }
 
 /// What waited in the queue of a server that goes is completed, but for a close.
-fn end_entry(parts: &mut Parts, taken: Taken, lines: &mut LineBuffer)
+fn end_entry(parts: &mut Parts, taken: TakenEntry, lines: &mut LineBuffer)
     requires kept { EntryKept parts.old.messages taken.entry }
     requires below { IsNumbered taken }
     requires room { length lines.old.lines + answers (taken.entry ∷ []) ≤ lines.old.room }
     ensures messages { Drops (taken.entry ∷ []) parts.old.messages parts.new.messages }
     ensures rest { parts.new ≡ record parts.old { messages = parts.new.messages } }
-    ensures told { lines.new ≡ record lines.old { lines = lines.old.lines ++ gone_line taken } }
+    ensures reported { lines.new ≡ record lines.old { lines = lines.old.lines ++ gone_line taken } }
 {
     match taken.entry {
         QueueEntry::Connect { .. } => lines.push(Line::Reply(taken.client, TERMINATED)),

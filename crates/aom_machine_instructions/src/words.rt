@@ -2,7 +2,7 @@
 ghost use Rattle.std.specs.Prelude.{ℕ, List, ◌<◌, length};
 ghost use Rattle.aom_image.specs.Image.{Image};
 ghost use Rattle.aom_instructions.specs.declared.instr.Instr.TheVariants.{Load, Store, Print};
-ghost use Rattle.aom_machine_instructions.specs.Acts.{Does, Tells};
+ghost use Rattle.aom_machine_instructions.specs.Acts.{Does, WritesLines};
 ghost use Rattle.aom_machine_instructions.specs.Next.{IsNext};
 
 use aom_image::{Register, WordIndex};
@@ -30,7 +30,7 @@ pub fn print(parts: &mut Parts, from: Register, lines: &mut LineBuffer)
     requires next { (p : Image) × IsNext p (Print from) parts.old }
     requires room { length lines.old.lines < lines.old.room }
     ensures does { (refused : List ℕ) → Does refused (Print from) parts.old parts.new }
-    ensures tells { Tells (Print from) parts.old lines.old lines.new }
+    ensures reports { WritesLines (Print from) parts.old lines.old lines.new }
 {
     let word = parts.word(from);
     lines.push(Line::Out(word));

@@ -4,7 +4,7 @@ use Rattle.std.proofs.Common.{List, [], ◌∷◌, ◌≡◌, ◌<◌, ℕ, ℤ,
 use Rattle.std.specs.Int.{w32, cast_signed}
 use Rattle.aom_machine_state.proofs.ImageLemmas.{cons_given}
 use Rattle.aom_frames.specs.Items.{IsAboveMark}
-use Rattle.aom_frames.specs.Tasks.{Runs, below_first}
+use Rattle.aom_frames.specs.Tasks.{TopFrameIs, below_first}
 use Rattle.aom_machine_state.specs.Places.{IsClosing, IsDestroying, IsEnding, IsTrapped, IsUnwinding}
 use Rattle.aom_semantics.specs.State.{Frame, Task, Run, Trapped, Destroy, Closing, Unwind, Dispatch, Dispatched, Item, An_object, An_operation, A_mark}
 use Rattle.aom_frames.specs.declared.frame.Frame.{Frame as Machine_frame}
@@ -108,41 +108,41 @@ pub data Kind : Type 0 where
   A_last_leave : Kind
 
 abbrev pub IsOn : Kind → List Machine_task → Type 0
-IsOn A_method ms = Runs ms
+IsOn A_method ms = TopFrameIs ms
 IsOn A_trap ms = IsTrapped ms
 IsOn A_going ms = IsDestroying ms
 IsOn A_closing ms = IsClosing ms
 IsOn A_leave ms = IsUnwinding ms
 IsOn An_end ms = IsEnding ms
-IsOn A_catcher ms = IsTrapped ms × Runs (below_first ms)
+IsOn A_catcher ms = IsTrapped ms × TopFrameIs (below_first ms)
 IsOn A_last_trap ms = IsTrapped ms × IsEnding (below_first ms)
-IsOn A_caught_leave ms = IsUnwinding ms × IsTrapped (below_first ms) × Runs (below_first (below_first ms))
+IsOn A_caught_leave ms = IsUnwinding ms × IsTrapped (below_first ms) × TopFrameIs (below_first (below_first ms))
 IsOn A_last_leave ms = IsUnwinding ms × IsTrapped (below_first ms) × IsEnding (below_first (below_first ms))
 
-pub data Tops : Kind → List Machine_task → Type 0 where
-  method_on_top : (f : Machine_frame) (ms : List Machine_task) → Tops A_method (Runs_frame f ∷ ms)
-  trap_on_top : (ms : List Machine_task) → Tops A_trap (Is_trap ∷ ms)
-  going_on_top : (x : ℕ) (ms : List Machine_task) → Tops A_going (Destroys x ∷ ms)
-  closing_on_top : (ms : List Machine_task) → Tops A_closing (Closes ∷ ms)
-  leave_on_top : (code : ℤ) (ms : List Machine_task) → Tops A_leave (Unwinds code ∷ ms)
-  end_on_top : (x : Machine_dispatch) (ms : List Machine_task) → Tops An_end (Ends x ∷ ms)
-  catcher_on_top : (f : Machine_frame) (ms : List Machine_task) → Tops A_catcher (Is_trap ∷ Runs_frame f ∷ ms)
-  last_trap_on_top : (x : Machine_dispatch) (ms : List Machine_task) → Tops A_last_trap (Is_trap ∷ Ends x ∷ ms)
-  caught_leave_on_top : (code : ℤ) (f : Machine_frame) (ms : List Machine_task) → Tops A_caught_leave (Unwinds code ∷ Is_trap ∷ Runs_frame f ∷ ms)
-  last_leave_on_top : (code : ℤ) (x : Machine_dispatch) (ms : List Machine_task) → Tops A_last_leave (Unwinds code ∷ Is_trap ∷ Ends x ∷ ms)
+pub data TopMatches : Kind → List Machine_task → Type 0 where
+  method_on_top : (f : Machine_frame) (ms : List Machine_task) → TopMatches A_method (Runs_frame f ∷ ms)
+  trap_on_top : (ms : List Machine_task) → TopMatches A_trap (Is_trap ∷ ms)
+  going_on_top : (x : ℕ) (ms : List Machine_task) → TopMatches A_going (Destroys x ∷ ms)
+  closing_on_top : (ms : List Machine_task) → TopMatches A_closing (Closes ∷ ms)
+  leave_on_top : (code : ℤ) (ms : List Machine_task) → TopMatches A_leave (Unwinds code ∷ ms)
+  end_on_top : (x : Machine_dispatch) (ms : List Machine_task) → TopMatches An_end (Ends x ∷ ms)
+  catcher_on_top : (f : Machine_frame) (ms : List Machine_task) → TopMatches A_catcher (Is_trap ∷ Runs_frame f ∷ ms)
+  last_trap_on_top : (x : Machine_dispatch) (ms : List Machine_task) → TopMatches A_last_trap (Is_trap ∷ Ends x ∷ ms)
+  caught_leave_on_top : (code : ℤ) (f : Machine_frame) (ms : List Machine_task) → TopMatches A_caught_leave (Unwinds code ∷ Is_trap ∷ Runs_frame f ∷ ms)
+  last_leave_on_top : (code : ℤ) (x : Machine_dispatch) (ms : List Machine_task) → TopMatches A_last_leave (Unwinds code ∷ Is_trap ∷ Ends x ∷ ms)
 
-pub tops : (k : Kind) (ms : List Machine_task) → IsOn k ms → Tops k ms
-tops A_method (Runs_frame f ∷ ms) on = method_on_top f ms
-tops A_trap (Is_trap ∷ ms) on = trap_on_top ms
-tops A_going (Destroys x ∷ ms) on = going_on_top x ms
-tops A_closing (Closes ∷ ms) on = closing_on_top ms
-tops A_leave (Unwinds code ∷ ms) on = leave_on_top code ms
-tops An_end (Ends x ∷ ms) on = end_on_top x ms
-tops A_catcher (Is_trap ∷ Runs_frame f ∷ ms) on = catcher_on_top f ms
-tops A_last_trap (Is_trap ∷ Ends x ∷ ms) on = last_trap_on_top x ms
-tops A_caught_leave (Unwinds code ∷ Is_trap ∷ Runs_frame f ∷ ms) on = caught_leave_on_top code f ms
-tops A_last_leave (Unwinds code ∷ Is_trap ∷ Ends x ∷ ms) on = last_leave_on_top code x ms
-tops _ _ on = absurd (assumption tt)
+pub top_matches : (k : Kind) (ms : List Machine_task) → IsOn k ms → TopMatches k ms
+top_matches A_method (Runs_frame f ∷ ms) on = method_on_top f ms
+top_matches A_trap (Is_trap ∷ ms) on = trap_on_top ms
+top_matches A_going (Destroys x ∷ ms) on = going_on_top x ms
+top_matches A_closing (Closes ∷ ms) on = closing_on_top ms
+top_matches A_leave (Unwinds code ∷ ms) on = leave_on_top code ms
+top_matches An_end (Ends x ∷ ms) on = end_on_top x ms
+top_matches A_catcher (Is_trap ∷ Runs_frame f ∷ ms) on = catcher_on_top f ms
+top_matches A_last_trap (Is_trap ∷ Ends x ∷ ms) on = last_trap_on_top x ms
+top_matches A_caught_leave (Unwinds code ∷ Is_trap ∷ Runs_frame f ∷ ms) on = caught_leave_on_top code f ms
+top_matches A_last_leave (Unwinds code ∷ Is_trap ∷ Ends x ∷ ms) on = last_leave_on_top code x ms
+top_matches _ _ on = absurd (assumption tt)
 
 -- what is not so of the empty list is so of a list with members
 pub some_members : {A : Type 0} (P : List A → Type 0) (xs : List A) → P xs → (P [] → ⊥) → 0 < length xs

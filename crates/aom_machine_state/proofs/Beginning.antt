@@ -5,7 +5,7 @@ use Rattle.std.proofs.lemmas.Bool.{false≢true}
 use Rattle.std.proofs.lemmas.Option.{none-some}
 use Rattle.std.specs.Prelude.{AllPairs, map, ◌<◌}
 use Rattle.aom_clients.specs.Clients as kept
-use Rattle.aom_clients.specs.Clients.{State, at_first, client_at, queue_at}
+use Rattle.aom_clients.specs.Clients.{ClientsState, at_first, client_at, queue_at}
 use Rattle.aom_clients.specs.Table.{is_queued}
 use Rattle.aom_clients.specs.declared.client.Client.TheVariants.{Unconnected}
 use Rattle.aom_clients.specs.declared.entry.QueueEntry.{QueueEntry}
@@ -98,7 +98,7 @@ tokens_begin p = record {
   cells = length-replicate {A = Option ℕ} p.header.cells None;
 }
 
-module _ (p : Image) (s : State) (store : Store) (tokens : Kept) (table : Table) where
+module _ (p : Image) (s : ClientsState) (store : Store) (tokens : Kept) (table : Table) where
   pub services_begin : s ≡ at_first p.header.cells → store ≡ record { slots = []; limit = p.header.messages } →
       tokens ≡ none_of p.header.messages p.header.cells → table ≡ no_list p.header.cells 256 → SameServices p s store tokens table [] []
   services_begin clients messages handed listed = subst (λ x. SameServices p x store tokens table [] []) (sym clients)

@@ -5,7 +5,7 @@ use Rattle.std.proofs.Common.{refl, suc, sym, true, ℕ, pos, ◌<◌, ◌==◌,
 use Rattle.std.specs.Prelude.{is_some}
 use Rattle.std.proofs.lemmas.Bool.{eqb-true, false≢true, ne_eqb}
 use Rattle.std.proofs.lemmas.List.{get_or_past}
-use Rattle.aom_active.specs.Agrees.{Active}
+use Rattle.aom_active_objects.specs.Agrees.{Active}
 use Rattle.aom_cells.specs.Heap.{Heap}
 use Rattle.aom_image.specs.Image.{Image}
 use Rattle.aom_image.specs.declared.method.Thing.TheVariants.{Message}
@@ -13,15 +13,15 @@ use Rattle.aom_roles.specs.Things.{is_object}
 use Rattle.aom_clients.specs.Lists.{Table}
 use Rattle.aom_cells.specs.Sessions.{Standing, is_open}
 use Rattle.aom_roles.specs.Tables.{at}
-use Rattle.aom_machine_state.proofs.SafetyLemmas.{cell_in, cell_in_sifted, cell_lives, cell_of, cell_of_sifted, cell_owner, held_cell, kept as left_cell}
-use Rattle.aom_machine_state.proofs.SafetyLemmas.{named_cell, named_served, object_in, request_in, requested_cell, requested_served, requested_unnamed, sifted}
-use Rattle.aom_semantics.specs.Places.{Cell, Place, Service, Tidy, count_cells, held, in_session, named, requested, service_of, set_service, word_field}
+use Rattle.aom_machine_state.proofs.SafetyLemmas.{cell_in, cell_in_filtered_cells, cell_lives, cell_of, cell_of_filtered_cells, cell_owner, held_cell, kept as left_cell}
+use Rattle.aom_machine_state.proofs.SafetyLemmas.{named_cell, named_served, object_in, request_in, requested_cell, requested_served, requested_unnamed, filtered_cells}
+use Rattle.aom_semantics.specs.Places.{Cell, Place, Service, NoDuplicates, count_cells, held, in_session, named, requested, service_of, set_service, word_field}
 use Rattle.aom_semantics.specs.Servers.{is_queue}
 use Rattle.aom_machine_state.proofs.Asking.{requests_as}
 use Rattle.aom_machine_state.proofs.Cells.{cells_as}
 use Rattle.aom_machine_state.proofs.Forgetting.{words_cell, words_in}
 use Rattle.aom_machine_state.proofs.Listing.{listed_same}
-use Rattle.aom_machine_state.proofs.Vanishing.{AllCells, each_cell}
+use Rattle.aom_machine_state.proofs.Reclaiming.{AllCells, each_cell}
 use Rattle.aom_machine_state.specs.Agrees.{SameCells, SameNatives, SameRequests, thing_of}
 use Rattle.aom_machine_state.specs.Listing.{SameListed}
 
@@ -106,13 +106,13 @@ abbrev session_in : Option Cell → Bool
 session_in None = false
 session_in (Some c) = c.session
 
-module _ (drops : Cell → Bool) (f : Cell → Service) (cs : List Cell) (tidy : Tidy cs)
+module _ (drops : Cell → Bool) (f : Cell → Service) (cs : List Cell) (no_duplicates : NoDuplicates cs)
     (messages : (n : ℕ) (x : Cell) → cell_of cs n ≡ Some x → drops x ≡ true → (4096 ≤ n) × (is_object x.object.thing ≡ false) × (x.request ≡ None)) where
   abbrev ds : List Cell
-  ds = sifted drops f cs
+  ds = filtered_cells drops f cs
 
   cell_then : (n : ℕ) → cell_of ds n ≡ left_cell drops f (cell_of cs n)
-  cell_then n = cell_of_sifted drops f cs n tidy
+  cell_then n = cell_of_filtered_cells drops f cs n no_duplicates
 
   session_cell : (cs : List Cell) (n : ℕ) → in_session cs n ≡ session_in (cell_of cs n)
   session_cell [] n = refl
@@ -177,23 +177,23 @@ module _ (drops : Cell → Bool) (f : Cell → Service) (cs : List Cell) (tidy :
       go None e = inl (now None e ∙ sym (session_cell cs n ∙ ap session_in e))
       go (Some x) e = at x e (drops x) refl
 
-  count_so : (cs : List Cell) → AllCells (λ x. drops x ≡ true → is_object x.object.thing ≡ false) cs → count_cells (sifted drops f cs) ≡ count_cells cs
+  count_so : (cs : List Cell) → AllCells (λ x. drops x ≡ true → is_object x.object.thing ≡ false) cs → count_cells (filtered_cells drops f cs) ≡ count_cells cs
   count_so [] all = refl
-  count_so (c ∷ cs) all = grind (arith, nat_tests, count_so cs all.1, sifted drops f cs)
+  count_so (c ∷ cs) all = grind (arith, nat_tests, count_so cs all.1, filtered_cells drops f cs)
 
-  pub beside_sifted : Beside cs ds
-  beside_sifted = record {
+  pub beside_filtered_cells : Beside cs ds
+  beside_filtered_cells = record {
     names = names_so;
     requests = requests_so;
     words = words_so;
-    count = count_so cs (each_cell (λ x. drops x ≡ true → is_object x.object.thing ≡ false) cs tidy (λ n x e d. (messages n x e d).1));
+    count = count_so cs (each_cell (λ x. drops x ≡ true → is_object x.object.thing ≡ false) cs no_duplicates (λ n x e d. (messages n x e d).1));
     sessions = sessions_so;
   }
 
 -- what is owned by no queue stays, where what goes is owned by queues
-pub holds_sifted : (drops : Cell → Bool) (f : Cell → Service) (cs : List Cell) → Tidy cs → ((n : ℕ) (x : Cell) →
-    cell_of cs n ≡ Some x → drops x ≡ true → is_queue x.owner ≡ true) → (r : Place) → is_queue r ≡ false → held (sifted drops f cs) r ≡ held cs r
-holds_sifted drops f cs tidy queues r apart = held_cell (sifted drops f cs) r ∙ ap object_in (cell_in_sifted drops f cs r tidy)
+pub holds_filtered_cells : (drops : Cell → Bool) (f : Cell → Service) (cs : List Cell) → NoDuplicates cs → ((n : ℕ) (x : Cell) →
+    cell_of cs n ≡ Some x → drops x ≡ true → is_queue x.owner ≡ true) → (r : Place) → is_queue r ≡ false → held (filtered_cells drops f cs) r ≡ held cs r
+holds_filtered_cells drops f cs no_duplicates queues r apart = held_cell (filtered_cells drops f cs) r ∙ ap object_in (cell_in_filtered_cells drops f cs r no_duplicates)
     ∙ go (cell_in cs r) refl ∙ sym (held_cell cs r)
   where
     go : (x : Option Cell) → cell_in cs r ≡ x → object_in (left_cell drops f x) ≡ object_in x
@@ -202,7 +202,7 @@ holds_sifted drops f cs tidy queues r apart = held_cell (sifted drops f cs) r �
       where
         by : (b : Bool) → drops x ≡ b → object_in (cond b None (Some (record x { service = f x }))) ≡ Some x.object
         by false d = refl
-        by true d = absurd (false≢true (sym apart ∙ ap is_queue (sym (cell_owner cs r x e)) ∙ queues x.object.name x (cell_lives cs r x tidy e) d))
+        by true d = absurd (false≢true (sym apart ∙ ap is_queue (sym (cell_owner cs r x e)) ∙ queues x.object.name x (cell_lives cs r x no_duplicates e) d))
 
 -- ---- a message comes
 

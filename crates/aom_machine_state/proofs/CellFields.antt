@@ -18,7 +18,7 @@ use Rattle.aom_machine_state.specs.Agrees.{SameCells, thing_in, thing_of}
 use Rattle.aom_machine_state.specs.Fields.{PutsWord, PutsField}
 use Rattle.aom_machine_state.proofs.Values.{cases}
 use Rattle.aom_machine_state.proofs.CellWords.{words_stored}
-use Rattle.aom_machine_state.proofs.Cells.{class_told}
+use Rattle.aom_machine_state.proofs.Cells.{class_reported}
 use Rattle.aom_frames.specs.declared.item.Item.{Item}
 
 -- a field of a cell is read as it was written, and the others as before
@@ -59,7 +59,7 @@ word_put_elsewhere us h h' es others n w v puts x = grind (arith, nat_tests, eqb
 pub cell_of : (p : Image) (h : Heap) (cs : List Cell) (n : ℕ) (o : Object) → SameCells p h cs → named cs n ≡ Some o → is_object o.thing ≡ true →
     (c : Machine_cell) × (cell_at h n ≡ Some c)
 cell_of p h cs n o same lives object =
-    some_given (λ c. thing_in c ≡ Some o.thing) (cell_at h n) (class_told p h cs n o same lives object) (λ f. cc) (λ c e f. (c, e))
+    some_given (λ c. thing_in c ≡ Some o.thing) (cell_at h n) (class_reported p h cs n o same lives object) (λ f. cc) (λ c e f. (c, e))
 
 -- a cell has other words and fields, of the same class and as many
 cells_rewritten : (p : Image) (h h' : Heap) (cs cs' : List Cell) (n : ℕ) (c c' : Machine_cell) → SameCells p h cs → cell_at h n ≡ Some c →

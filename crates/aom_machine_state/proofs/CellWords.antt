@@ -10,7 +10,7 @@ use Rattle.aom_cells.specs.Heap.{word_at as cell_word}
 use Rattle.aom_cells.specs.declared.cell.Cell.{Cell as Machine_cell}
 use Rattle.aom_roles.specs.Tables.{at}
 use Rattle.aom_semantics.specs.Places.{Place, Object, Cell, named, moved, word_field, set_word_field}
-use Rattle.aom_machine_state.proofs.SemanticsLemmas.{at-put_at, front_free}
+use Rattle.aom_machine_state.proofs.SemanticsLemmas.{at-set_extending, front_free}
 
 -- a list of equal elements has that element everywhere, if it also stands for those past the end
 pub all_same : {A : Type 0} (n i : ℕ) (x : A) → slice_index_or (replicate n x) i x ≡ x
@@ -39,7 +39,7 @@ words_other (c ∷ cs) n w v k x d = grind (arith, nat_tests, words_other cs n w
 pub words_here : (cs : List Cell) (n w : ℕ) (v : ℤ) (x : ℕ) →
     word_field (set_word_field n w v cs) n x ≡ cond (is_some (named cs n) && (w == x)) v (word_field cs n x)
 words_here [] n w v x = refl
-words_here (c ∷ cs) n w v x = grind (arith, nat_tests, words_here cs n w v x, at-put_at)
+words_here (c ∷ cs) n w v x = grind (arith, nat_tests, words_here cs n w v x, at-set_extending)
 
 -- the machine writes a word of a cell
 word_left : (c : Option Machine_cell) (w x : ℕ) (v : ℤ) → (w == x) ≡ false → word_of (with_word c w v) x ≡ word_of c x

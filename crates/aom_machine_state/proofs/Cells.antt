@@ -7,7 +7,7 @@ use Rattle.aom_image.specs.Image.{Image}
 use Rattle.aom_roles.specs.Things.{is_object}
 use Rattle.aom_cells.specs.declared.cell.Cell.{Cell as Machine_cell}
 use Rattle.aom_cells.specs.Heap.{Heap, cell_at, word_of, count, Changes}
-use Rattle.aom_semantics.specs.Places.{Place, Object, Cell, count_cells, held, named, moved, without, Tidy, word_field}
+use Rattle.aom_semantics.specs.Places.{Place, Object, Cell, count_cells, held, named, moved, without, NoDuplicates, word_field}
 use Rattle.aom_machine_state.proofs.SafetyLemmas.{count_moved, count_without, counted_in}
 use Rattle.aom_machine_state.proofs.SemanticsLemmas.{named_moved, named_without, same_place-true, unnamed, without_none}
 use Rattle.aom_machine_state.specs.Agrees.{SameCells, thing_in, thing_of}
@@ -15,9 +15,9 @@ use Rattle.aom_machine_state.proofs.Values.{cases}
 use Rattle.aom_machine_state.proofs.CellWords.{words_moved, words_unnamed}
 
 -- the machine has the cell of an object
-pub class_told : (p : Image) (h : Heap) (cs : List Cell) (n : ℕ) (o : Object) → SameCells p h cs → named cs n ≡ Some o → is_object o.thing ≡ true →
+pub class_reported : (p : Image) (h : Heap) (cs : List Cell) (n : ℕ) (o : Object) → SameCells p h cs → named cs n ≡ Some o → is_object o.thing ≡ true →
     thing_in (cell_at h n) ≡ Some o.thing
-class_told p h cs n o same lives object = same.things n ∙ ap thing_of lives ∙ ap (λ b. cond b (Some o.thing) None) object
+class_reported p h cs n o same lives object = same.things n ∙ ap thing_of lives ∙ ap (λ b. cond b (Some o.thing) None) object
 
 -- and what it has the cell of is one
 pub is_an_object : (p : Image) (h : Heap) (cs : List Cell) (n : ℕ) (o : Object) → SameCells p h cs → named cs n ≡ Some o → IsSome (cell_at h n) →
@@ -51,20 +51,20 @@ pub unowned : (c : Cell) (cs : List Cell) (r : Place) (is : Place → Bool) → 
 unowned c cs r is here other none = grind (arith, nat_tests, false_from_ne_true, same_place-true c.owner r, not-true)
 
 -- the words of another cell than the one that goes
-pub words_without : (cs : List Cell) (g : Place) (o : Object) (n w : ℕ) → Tidy cs → held cs g ≡ Some o → (o.name == n) ≡ false →
+pub words_without : (cs : List Cell) (g : Place) (o : Object) (n w : ℕ) → NoDuplicates cs → held cs g ≡ Some o → (o.name == n) ≡ false →
     word_field (without g cs) n w ≡ word_field cs n w
 words_without [] g o n w t e d = refl
 words_without (c ∷ cs) g o n w t e d = grind (arith, nat_tests, words_without cs g o n w t.2, without_none cs g, same_place-true c.owner g)
 
 -- the cell that a place owned goes
 pub cells_without : (p : Image) (h h' : Heap) (cs : List Cell) (g : Place) (o : Object) → SameCells p h cs →
-    Tidy cs → held cs g ≡ Some o → is_object o.thing ≡ true → Changes h h' o.name None → count h' + 1 ≡ count h → SameCells p h' (without g cs)
-cells_without p h h' cs g o same tidy is object ch less = record {
-  things = grind (arith, nat_tests, eqb-true o.name, unnamed cs g o tidy is, named_without cs g o);
+    NoDuplicates cs → held cs g ≡ Some o → is_object o.thing ≡ true → Changes h h' o.name None → count h' + 1 ≡ count h → SameCells p h' (without g cs)
+cells_without p h h' cs g o same no_duplicates is object ch less = record {
+  things = grind (arith, nat_tests, eqb-true o.name, unnamed cs g o no_duplicates is, named_without cs g o);
   words = λ k w small. cases (o.name == k) (λ e. ap (λ i. word_of (cell_at h' i) w) (sym (eqb-true o.name k e))
-      ∙ ap (λ c. word_of c w) ch.here ∙ sym (words_unnamed (without g cs) k w (ap (named (without g cs)) (sym (eqb-true o.name k e)) ∙ unnamed cs g o tidy is)))
-      (λ e. ap (λ c. word_of c w) (other k e) ∙ same.words k w small ∙ sym (words_without cs g o k w tidy is e));
-  count = (let a = count_without cs g tidy ∙ ap (λ o. counted_in o + count_cells (without g cs)) is in let one = ap {B = ℕ} (λ b. cond b 1 0) object in
+      ∙ ap (λ c. word_of c w) ch.here ∙ sym (words_unnamed (without g cs) k w (ap (named (without g cs)) (sym (eqb-true o.name k e)) ∙ unnamed cs g o no_duplicates is)))
+      (λ e. ap (λ c. word_of c w) (other k e) ∙ same.words k w small ∙ sym (words_without cs g o k w no_duplicates is e));
+  count = (let a = count_without cs g no_duplicates ∙ ap (λ o. counted_in o + count_cells (without g cs)) is in let one = ap {B = ℕ} (λ b. cond b 1 0) object in
       let b = same.count in omega (arith, a, one, b));
   limit = ch.limit ∙ same.limit;
   wide = λ k c e. same.wide k c (sym (still k c e) ∙ e);

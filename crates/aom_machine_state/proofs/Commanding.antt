@@ -19,15 +19,15 @@ use Rattle.aom_image.specs.Image.{Image}
 use Rattle.aom_image.specs.declared.method.Thing.{Thing}
 use Rattle.aom_image.specs.declared.method.Thing.TheVariants.{Object as An_object_of}
 use Rattle.aom_roles.specs.Shapes.{kind_of}
-use Rattle.aom_rules.specs.Typing.{Typing}
-use Rattle.aom_machine_state.proofs.SafetyLemmas.{a_cell_of, asked_there, cell_of, cell_placed, held_cell, named_cell, named_sifted, object_in, server_there}
-use Rattle.aom_machine_state.proofs.SafetyLemmas.{tidy_sifted, waiting_well, withdrawn_so}
+use Rattle.aom_typing_rules.specs.Typing.{Typing}
+use Rattle.aom_machine_state.proofs.SafetyLemmas.{a_cell_of, asked_there, cell_of, cell_placed, held_cell, named_cell, named_filtered_cells, object_in, server_there}
+use Rattle.aom_machine_state.proofs.SafetyLemmas.{tidy_filtered_cells, waiting_well, withdrawn_so}
 use Rattle.aom_semantics.specs.Clients.{Listed, asked_server, client_at, commanded, connecting, count_messages, is_of_class}
-use Rattle.aom_semantics.specs.Clients.{leaving, most_of, refusal, room, sending, slots_of, told, with_client}
+use Rattle.aom_semantics.specs.Clients.{leaving, most_of, refusal, room, sending, slots_of, reported, with_client}
 use Rattle.aom_safety.specs.Kept.{ClientsFit}
 use Rattle.aom_safety.specs.Laws.{IsWired}
-use Rattle.aom_semantics.specs.Places.{Cell, Connect_of, Elsewhere, Object, Queued as Waits_at, Tidy, held, named, service_of}
-use Rattle.aom_semantics.specs.Servers.{asked_last, is_connect, is_from, is_queue, is_server, left_by, reserved, seats_taken, slots_taken, withdrawn}
+use Rattle.aom_semantics.specs.Places.{Cell, Connect_of, Elsewhere, Object, Queued as Waits_at, NoDuplicates, held, named, service_of}
+use Rattle.aom_semantics.specs.Servers.{asked_last, is_connect, is_from, is_queue, is_server, left_by, reserved, sessions_in_use, slots_taken, withdrawn}
 use Rattle.aom_semantics.specs.State.{State}
 use Rattle.aom_safety.specs.WellTyped.{WellTyped}
 use Rattle.aom_transcript.specs.declared.event.ClientCommand.TheVariants.{Close, Connect, Die, Send}
@@ -55,9 +55,9 @@ connects_counted places [] = refl
 connects_counted places (entry.Connect c ∷ es) = ap suc (connects_counted places es)
 connects_counted places (_ ∷ es) = connects_counted places es
 
-pub seats_counted : (k : kept.State) (cs : List Cell) (clients : List Client) →
-    SameClients k cs clients → (n : ℕ) → length (kept.sessions_at k n) + length (filter kept.is_connect (kept.queue_at k n)) ≡ seats_taken (service_of cs n)
-seats_counted k cs clients same n = grind (arith, nat_tests, connects_counted k.places)
+pub owned_objects_counted : (k : kept.State) (cs : List Cell) (clients : List Client) →
+    SameClients k cs clients → (n : ℕ) → length (kept.sessions_at k n) + length (filter kept.is_connect (kept.queue_at k n)) ≡ sessions_in_use (service_of cs n)
+owned_objects_counted k cs clients same n = grind (arith, nat_tests, connects_counted k.places)
 
 -- the server that the machine found, with the most sessions that its class takes
 abbrev pub found_server : ℕ → Option Listed → Option Server
@@ -68,12 +68,12 @@ module _ (p : Image) (c : ℕ) (s : State) (k : kept.State) (same : SameClients 
   -- a connect is refused on both sides alike
   pub connect_refused : (class slots : ℕ) →
       kept.connect_refusal c (found_server (most_of (kind_of p (Some class))) (asked_server p class s.cells)) k ≡ refusal p c s (Connect class slots)
-  connect_refused class slots = grind (arith, nat_tests, row_connect, seats_counted k s.cells s.clients same)
+  connect_refused class slots = grind (arith, nat_tests, row_connect, owned_objects_counted k s.cells s.clients same)
 
   -- and so is a send, where a place is found while fewer messages are kept than may be
-  pub send_refused : Tidy s.cells → (words : List ℤ) (place : Option ℕ) → is_some place ≡ nat_lt (count_messages s.cells) p.header.messages →
+  pub send_refused : NoDuplicates s.cells → (words : List ℤ) (place : Option ℕ) → is_some place ≡ nat_lt (count_messages s.cells) p.header.messages →
       kept.send_refusal c place k ≡ refusal p c s (Send words)
-  send_refused tidy words place found = grind (arith, nat_tests, slots_so k s.cells s.clients same tidy c)
+  send_refused no_duplicates words place found = grind (arith, nat_tests, slots_so k s.cells s.clients same no_duplicates c)
 
 -- ---- commands
 
@@ -103,7 +103,7 @@ module _ (p : Image) (t : Typing) (wired : IsWired p) (s : State) (w : WellTyped
       go (Some r) x e = same
       go None None e = same
       go None (Some x) e =
-          let l = asked_there p class s.cells x w.good.tidy e in
+          let l = asked_there p class s.cells x w.good.no_duplicates e in
           subst (λ n. SameClients (kept.queued n (entry.Connect c) (kept.with_client c (Connecting n slots) k))
           (reserved (asked_last (Connect_of c)) n s.cells) (with_client c (Connecting n slots) s.clients)) l.1 (same_connecting k s.cells s.clients same l.0 l.2
           c client slots (subst (λ n. l.0.name < n) (sym sized.queues) (below l.0 l.2 (serves_class class l.0.thing l.3 (asked_serves class x e)))))
@@ -113,13 +113,13 @@ module _ (p : Image) (t : Typing) (wired : IsWired p) (s : State) (w : WellTyped
   -- the server at which it is open
   server_open : (n session slots : ℕ) → kept.client_at k c ≡ Open n session slots →
       (o : Object) × (o.name ≡ n) × (named s.cells o.name ≡ Some o) × (is_server p o.thing ≡ true)
-  server_open n session slots at = grind (arith, nat_tests, server_there p c s w.good.tidy fit n)
+  server_open n session slots at = grind (arith, nat_tests, server_there p c s w.good.no_duplicates fit n)
 
   pub same_send : (words : List ℤ) (place : Option ℕ) →
       is_some place ≡ nat_lt (count_messages s.cells) p.header.messages → ((m : ℕ) → place ≡ Some m → (m < 1024) × (named s.cells (message_name m) ≡ None)) →
       (name : ℕ) → ((m : ℕ) → place ≡ Some m → name ≡ message_name m) → After (kept.after_send c place k) (commanded p c s (Send words) name)
   same_send words place found free name called = subst (λ r. After (kept.sending r (kept.client_at k c) c place k)
-      (sending p c s (refusal p c s (Send words)) (client_at s.clients c) name words)) (sym (send_refused p c s k same w.good.tidy words place found))
+      (sending p c s (refusal p c s (Send words)) (client_at s.clients c) name words)) (sym (send_refused p c s k same w.good.no_duplicates words place found))
       (subst (λ y. After (kept.sending (refusal p c s (Send words)) (kept.client_at k c) c place k) (sending p c s (refusal p c s (Send words)) y name words))
       (same.at c) (go (refusal p c s (Send words)) refl (kept.client_at k c) refl place refl))
     where
@@ -134,7 +134,7 @@ module _ (p : Image) (t : Typing) (wired : IsWired p) (s : State) (w : WellTyped
           by : (r : Option CommandRefusal) → cond
               (nat_lt (slots_taken c s.cells) (slots_of (client_at s.clients c)) && nat_lt (count_messages s.cells) p.header.messages) None (Some ServerBusy)
               ≡ cond (nat_lt (slots_taken c s.cells) (slots_of (client_at s.clients c)) && false) None (Some ServerBusy) → room p c s r ≡ None → ⊥
-          by x told e = grind arith
+          by x reported e = grind arith
 
       go : (r : Option CommandRefusal) → refusal p c s (Send words) ≡ r →
           (x : Client) → kept.client_at k c ≡ x → (y : Option ℕ) → place ≡ y → After (kept.sending r x c y k) (sending p c s r (sessionless x) name words)
@@ -156,16 +156,16 @@ module _ (p : Image) (t : Typing) (wired : IsWired p) (s : State) (w : WellTyped
 
   -- ---- a close or a death
 
-  tidy_left : Tidy (withdrawn c s.cells)
-  tidy_left = subst Tidy (sym (withdrawn_so c s.cells))
-      (tidy_sifted (λ x. is_queue x.owner && is_from c x.service.sender) (λ x. left_by c x.service) s.cells w.good.tidy)
+  tidy_left : NoDuplicates (withdrawn c s.cells)
+  tidy_left = subst NoDuplicates (sym (withdrawn_so c s.cells))
+      (tidy_filtered_cells (λ x. is_queue x.owner && is_from c x.service.sender) (λ x. left_by c x.service) s.cells w.good.no_duplicates)
 
   -- a server stays
   server_stays : (o : Object) → named s.cells o.name ≡ Some o → is_server p o.thing ≡ true → named (withdrawn c s.cells) o.name ≡ Some o
   server_stays o lives serves =
       let z = a_cell_of (cell_of s.cells o.name) o (sym (named_cell s.cells o.name) ∙ lives) in
-      ap (λ l. named l o.name) (withdrawn_so c s.cells) ∙ named_sifted (λ x. is_queue x.owner && is_from c x.service.sender)
-      (λ x. left_by c x.service) s.cells w.good.tidy o.name z.0 z.1 (stays z.0 z.1 z.2 (is_queue z.0.owner) refl) ∙ ap (λ y. Some y) z.2
+      ap (λ l. named l o.name) (withdrawn_so c s.cells) ∙ named_filtered_cells (λ x. is_queue x.owner && is_from c x.service.sender)
+      (λ x. left_by c x.service) s.cells w.good.no_duplicates o.name z.0 z.1 (stays z.0 z.1 z.2 (is_queue z.0.owner) refl) ∙ ap (λ y. Some y) z.2
     where
       stays : (x : Cell) → cell_of s.cells o.name ≡ Some x → x.object ≡ o → (b : Bool) → is_queue x.owner ≡ b →
           (is_queue x.owner && is_from c x.service.sender) ≡ false
@@ -173,12 +173,12 @@ module _ (p : Image) (t : Typing) (wired : IsWired p) (s : State) (w : WellTyped
       stays x e is true f =
           let q = queue_owner x.owner f in
           let there : held s.cells (Elsewhere (Waits_at q.0 q.1)) ≡ Some x.object =
-          ap (held s.cells) (sym q.2) ∙ held_cell s.cells x.owner ∙ ap object_in (cell_placed s.cells o.name x w.good.tidy e) in
+          ap (held s.cells) (sym q.2) ∙ held_cell s.cells x.owner ∙ ap object_in (cell_placed s.cells o.name x w.good.no_duplicates e) in
           absurd (false≢true (sym (waiting_well p t wired s w q.0 q.1 x.object there) ∙ ap (λ (y : Object). is_server p y.thing) is ∙ serves))
 
   left_by_row : (to : Option Client) → After (kept.leaving to c k) (leaving p c s (option_map sessionless to))
   left_by_row None = same
-  left_by_row (Some to) = same_left k s.cells s.clients same w.good.tidy c client (queue_empty p t wired s w s.clients fit)
+  left_by_row (Some to) = same_left k s.cells s.clients same w.good.no_duplicates c client (queue_empty p t wired s w s.clients fit)
       (messages_wait p t wired s w s.clients fit k same) p s to tidy_left (λ n session slots at. let o = server_open n session slots at in (
         o.0,
         o.1,

@@ -14,7 +14,7 @@ use Rattle.aom_clients.specs.declared.place.MessagePlace.TheVariants.{Free, Queu
 use Rattle.aom_clients.specs.Table.{is_out_of, is_queued}
 use Rattle.aom_machine_state.proofs.SemanticsLemmas.{read_unnamed, read_without, unnamed}
 use Rattle.aom_machine_state.proofs.SafetyLemmas.{among_others, among_parted, service_unnamed, service_without}
-use Rattle.aom_semantics.specs.Places.{Cell, Object, Place as Owner, Service, Tidy, held, named, service_of, unserved, without}
+use Rattle.aom_semantics.specs.Places.{Cell, Object, Place as Owner, Service, NoDuplicates, held, named, service_of, unserved, without}
 use Rattle.aom_semantics.specs.Servers.{holds_slot, is_among, is_message, is_other, slots_taken}
 use Rattle.aom_machine_state.proofs.Serving.{asked_apart, at_set, names_apart, owners, slots_of}
 use Rattle.aom_machine_state.specs.Serving.{Once, SameClients, asked_by, holds, message_name, owner_of, sent_by, waits_in}
@@ -39,17 +39,17 @@ once_without m (k ∷ ms) once = grind (arith, nat_tests, once_without m ms once
 pub owner_unnamed : (cs : List Cell) (n : ℕ) → named cs n ≡ None → owner_of cs n ≡ None
 owner_unnamed = read_unnamed owners
 
-pub owner_without : (g : Owner) (o : Object) (cs : List Cell) (n : ℕ) → Tidy cs → held cs g ≡ Some o → (o.name == n) ≡ false →
+pub owner_without : (g : Owner) (o : Object) (cs : List Cell) (n : ℕ) → NoDuplicates cs → held cs g ≡ Some o → (o.name == n) ≡ false →
     owner_of (without g cs) n ≡ owner_of cs n
 owner_without g o cs = read_without owners cs g o
 
 -- ---- the slots that are taken
 
 abbrev Counted : ℕ → List Cell → Type 0
-Counted d cs = (ms : List ℕ) → Tidy cs → Once ms → ((m : ℕ) → is_among m ms ≡ holds_slot d (service_of cs (message_name m)).sender) →
+Counted d cs = (ms : List ℕ) → NoDuplicates cs → Once ms → ((m : ℕ) → is_among m ms ≡ holds_slot d (service_of cs (message_name m)).sender) →
     ((n : ℕ) → n < 4096 → holds_slot d (service_of cs n).sender ≡ false) → length ms ≡ slots_taken d cs
 
-module _ (d : ℕ) (c : Cell) (cs : List Cell) (ms : List ℕ) (tidy : Tidy (c ∷ cs)) (once : Once ms) (same : (m : ℕ) → is_among m ms ≡ holds_slot d (service_of
+module _ (d : ℕ) (c : Cell) (cs : List Cell) (ms : List ℕ) (no_duplicates : NoDuplicates (c ∷ cs)) (once : Once ms) (same : (m : ℕ) → is_among m ms ≡ holds_slot d (service_of
     (c ∷ cs) (message_name m)).sender) (silent : (n : ℕ) → n < 4096 → holds_slot d (service_of (c ∷ cs) n).sender ≡ false) (rest : Counted d cs) where
   abbrev k : ℕ
   k = c.object.name
@@ -76,30 +76,30 @@ module _ (d : ℕ) (c : Cell) (cs : List Cell) (ms : List ℕ) (tidy : Tidy (c �
 
     one_more : length ms ≡ suc (slots_taken d cs)
     one_more =
-        let less = rest (filter (is_other m) ms) tidy.2 (once_without m ms once) (λ j. others j (m == j) refl) silent_behind in
+        let less = rest (filter (is_other m) ms) no_duplicates.2 (once_without m ms once) (λ j. others j (m == j) refl) silent_behind in
         length_without m ms once ∙ ap (λ b. length (filter (is_other m) ms) + cond b 1 0) there ∙ omega (arith, less)
 
   counted_on : (b : Bool) → holds_slot d c.service.sender ≡ b → (k < 4096) ⊎ (4096 ≤ k) → length ms ≡ cond b (suc (slots_taken d cs)) (slots_taken d cs)
-  counted_on false e x = rest ms tidy.2 once (λ j. same j ∙ behind e (message_name j)) (λ n small. sym (behind e n) ∙ silent n small)
+  counted_on false e x = rest ms no_duplicates.2 once (λ j. same j ∙ behind e (message_name j)) (λ n small. sym (behind e n) ∙ silent n small)
   counted_on true e (inl small) =
       absurd (false≢true (sym (silent k small) ∙ ap (λ b. holds_slot d (cond b c.service (service_of cs k)).sender) (eq-eqb k k refl) ∙ e))
   counted_on true e (inr large) = one_more e (k - 4096) (omega (arith, large))
 
 -- are those of the messages that hold one
 counted : (d : ℕ) (cs : List Cell) → Counted d cs
-counted d [] [] tidy once same silent = refl
-counted d [] (m ∷ ms) tidy once same silent = absurd (false≢true (sym (same m) ∙ ap (λ b. b || is_among m ms) (eq-eqb m m refl)))
-counted d (c ∷ cs) ms tidy once same silent =
-    counted_on d c cs ms tidy once same silent (counted d cs) (holds_slot d c.service.sender) refl (cases_lt c.object.name 4096)
+counted d [] [] no_duplicates once same silent = refl
+counted d [] (m ∷ ms) no_duplicates once same silent = absurd (false≢true (sym (same m) ∙ ap (λ b. b || is_among m ms) (eq-eqb m m refl)))
+counted d (c ∷ cs) ms no_duplicates once same silent =
+    counted_on d c cs ms no_duplicates once same silent (counted d cs) (holds_slot d c.service.sender) refl (cases_lt c.object.name 4096)
 
-pub slots_so : (s : kept.State) (cs : List Cell) (clients : List Client) → SameClients s cs clients → Tidy cs → (d : ℕ) →
+pub slots_so : (s : kept.State) (cs : List Cell) (clients : List Client) → SameClients s cs clients → NoDuplicates cs → (d : ℕ) →
     length (kept.sent_at s d) ≡ slots_taken d cs
-slots_so s cs clients same tidy d = counted d cs (kept.sent_at s d) tidy (same.once d) (slots_of s cs clients same d) (λ n small. same.silent n d small)
+slots_so s cs clients same no_duplicates d = counted d cs (kept.sent_at s d) no_duplicates (same.once d) (slots_of s cs clients same d) (λ n small. same.silent n d small)
 
 -- ---- a message is completed
 
 -- the cell of that number goes from its place; it has no queue and no sessions, and no queue has it
-module _ (s : kept.State) (cs : List Cell) (clients : List Client) (same : SameClients s cs clients) (tidy : Tidy cs) (m : ℕ) (place : m < length s.places)
+module _ (s : kept.State) (cs : List Cell) (clients : List Client) (same : SameClients s cs clients) (no_duplicates : NoDuplicates cs) (m : ℕ) (place : m < length s.places)
     (g : Owner) (o : Object) (there : held cs g ≡ Some o) (name : o.name ≡ message_name m) (plain : ((service_of cs (message_name m)).queue ≡ []) ×
     ((service_of cs (message_name m)).sessions ≡ [])) (nowhere : (n : ℕ) → list_any (is_message (message_name m)) (service_of cs n).queue ≡ false) where
   abbrev then : kept.State
@@ -109,7 +109,7 @@ module _ (s : kept.State) (cs : List Cell) (clients : List Client) (same : SameC
   left = without g cs
 
   gone : service_of left (message_name m) ≡ unserved
-  gone = ap (λ n. service_of left n) (sym name) ∙ service_unnamed left o.name (unnamed cs g o tidy there)
+  gone = ap (λ n. service_of left n) (sym name) ∙ service_unnamed left o.name (unnamed cs g o no_duplicates there)
 
   -- what holds where nothing is, and of all others
   by_gone : (P : ℕ → Service → Type 0) → P (message_name m) unserved → ((n : ℕ) → (message_name m == n) ≡ false → P n (service_of cs n)) →
@@ -127,7 +127,7 @@ module _ (s : kept.State) (cs : List Cell) (clients : List Client) (same : SameC
 
   -- what is told of another message is as it was
   apart : (j : ℕ) → (m == j) ≡ false → service_of left (message_name j) ≡ service_of cs (message_name j)
-  apart j other = service_without cs g o (message_name j) tidy there (ap (λ k. k == message_name j) name ∙ names_apart m j other)
+  apart j other = service_without cs g o (message_name j) no_duplicates there (ap (λ k. k == message_name j) name ∙ names_apart m j other)
 
   queues_then : (n : ℕ) → map (asked_by then.places) (kept.queue_at s n) ≡ (service_of left n).queue
   queues_then n = asked_apart s.places m Free place (kept.queue_at s n) (ap (λ l. list_any (is_message (message_name m)) l) (same.queues n) ∙ nowhere n)
@@ -137,7 +137,7 @@ module _ (s : kept.State) (cs : List Cell) (clients : List Client) (same : SameC
   senders_then j = grind (arith, nat_tests, places_at j, eqb-true m j, gone, among_then, apart j)
 
   waits_then : (j : ℕ) → is_queued (kept.place_at then j) ≡ waits_in (owner_of left (message_name j))
-  waits_then j = grind (arith, nat_tests, places_at j, eqb-true m j, owner_unnamed, unnamed cs g o tidy there, owner_without g o cs, names_apart m j)
+  waits_then j = grind (arith, nat_tests, places_at j, eqb-true m j, owner_unnamed, unnamed cs g o no_duplicates there, owner_without g o cs, names_apart m j)
 
   out_then : (d j : ℕ) → is_among j (kept.sent_at then d) ≡ true → is_out_of d (kept.place_at then j) ≡ true
   out_then d j h = grind (arith, nat_tests, sent_of d, eqb-true m j, among_parted m, places_at j, among_then d j, same.out d j)

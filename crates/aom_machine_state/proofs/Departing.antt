@@ -7,7 +7,7 @@ use Rattle.std.specs.Prelude.{filter, not, ◌||◌}
 use Rattle.std.proofs.lemmas.Bool.{cases_lt, eq-eqb, eqb-true}
 use Rattle.std.proofs.lemmas.List.{get_or-set_other, get_or-set_same, get_or_past, length-map, length-set, set_past}
 use Rattle.aom_clients.specs.Clients as kept
-use Rattle.aom_clients.specs.Table.{at_gone}
+use Rattle.aom_clients.specs.Table.{after_server_destroyed}
 use Rattle.aom_clients.specs.declared.client.Client.{Client}
 use Rattle.aom_clients.specs.declared.client.Client.TheVariants.{Unconnected}
 use Rattle.aom_clients.specs.declared.entry.QueueEntry.{QueueEntry}
@@ -40,8 +40,8 @@ either : {A : Type 0} (a b : Bool) (x y : A) → cond a x (cond b x y) ≡ cond 
 either x b y z = grind arith
 
 -- what is told of one number is told of it by a test
-told_there : {A : Type 0} (k n : ℕ) (at : ℕ → A) (x : A) → at k ≡ x → at n ≡ cond (k == n) x (at n)
-told_there k n at x e = grind (arith, nat_tests, eqb-true k n)
+reported_there : {A : Type 0} (k n : ℕ) (at : ℕ → A) (x : A) → at k ≡ x → at n ≡ cond (k == n) x (at n)
+reported_there k n at x e = grind (arith, nat_tests, eqb-true k n)
 
 -- the same test twice
 once_more : {A : Type 0} (b : Bool) (x y z : A) → cond b x (cond b y z) ≡ cond b x z
@@ -93,7 +93,7 @@ module _ (k : ℕ) where
   -- the queue is empty, and all others are as they were
   pub queue_after_queue : (es : List QueueEntry) (s : kept.State) (n : ℕ) → k < length s.queues → kept.queue_at s k ≡ es →
       kept.queue_at (kept.queue_gone k es s) n ≡ cond (k == n) [] (kept.queue_at s n)
-  queue_after_queue [] s n small at = told_there k n (kept.queue_at s) [] at
+  queue_after_queue [] s n small at = reported_there k n (kept.queue_at s) [] at
   queue_after_queue (e ∷ es) s n small at = queue_after_queue es (kept.gone k (e ∷ es) s) n
       (subst (λ i. k < i) (sym (long e)) small) (now e k ∙ set_at_queue k ∙ ap (λ b. cond b es (kept.queue_at s k)) (eq-eqb k k refl))
       ∙ ap (λ x. cond (k == n) [] x) (now e n ∙ set_at_queue n) ∙ once_more (k == n) [] es (kept.queue_at s n)
@@ -119,24 +119,24 @@ module _ (k : ℕ) where
 
   -- ---- its sessions
 
-  gone_again : (x : Client) → at_gone (at_gone x) ≡ at_gone x
+  gone_again : (x : Client) → after_server_destroyed (after_server_destroyed x) ≡ after_server_destroyed x
   gone_again x = grind arith
 
   pub client_after_sessions : (cs : List ℕ) (s : kept.State) (c : ℕ) →
-      kept.client_at (kept.sessions_gone k cs s) c ≡ cond (list_any (λ d. d == c) cs) (at_gone (kept.client_at s c)) (kept.client_at s c)
+      kept.client_at (kept.sessions_gone k cs s) c ≡ cond (list_any (λ d. d == c) cs) (after_server_destroyed (kept.client_at s c)) (kept.client_at s c)
   client_after_sessions [] s c = refl
   client_after_sessions (d ∷ cs) s c = client_after_sessions cs (kept.session_gone k (d ∷ cs) s) c
-      ∙ ap (λ x. cond (list_any (λ d. d == c) cs) (at_gone x) x) now ∙ go (list_any (λ d. d == c) cs) (d == c)
+      ∙ ap (λ x. cond (list_any (λ d. d == c) cs) (after_server_destroyed x) x) now ∙ go (list_any (λ d. d == c) cs) (d == c)
     where
-      now : kept.client_at (kept.session_gone k (d ∷ cs) s) c ≡ cond (d == c) (at_gone (kept.client_at s c)) (kept.client_at s c)
-      now = at_set_or Unconnected s.clients d c (at_gone (kept.client_at s d)) (λ large. ap at_gone (get_or_past s.clients d Unconnected large)) ∙ at (d == c) refl
+      now : kept.client_at (kept.session_gone k (d ∷ cs) s) c ≡ cond (d == c) (after_server_destroyed (kept.client_at s c)) (kept.client_at s c)
+      now = at_set_or Unconnected s.clients d c (after_server_destroyed (kept.client_at s d)) (λ large. ap after_server_destroyed (get_or_past s.clients d Unconnected large)) ∙ at (d == c) refl
         where
-          at : (b : Bool) → (d == c) ≡ b → cond b (at_gone (kept.client_at s d)) (kept.client_at s c) ≡ cond b (at_gone (kept.client_at s c)) (kept.client_at s c)
-          at true e = ap (λ i. at_gone (kept.client_at s i)) (eqb-true d c e)
+          at : (b : Bool) → (d == c) ≡ b → cond b (after_server_destroyed (kept.client_at s d)) (kept.client_at s c) ≡ cond b (after_server_destroyed (kept.client_at s c)) (kept.client_at s c)
+          at true e = ap (λ i. after_server_destroyed (kept.client_at s i)) (eqb-true d c e)
           at false e = refl
 
-      go : (a b : Bool) → cond a (at_gone (cond b (at_gone (kept.client_at s c)) (kept.client_at s c)))
-          (cond b (at_gone (kept.client_at s c)) (kept.client_at s c)) ≡ cond (b || a) (at_gone (kept.client_at s c)) (kept.client_at s c)
+      go : (a b : Bool) → cond a (after_server_destroyed (cond b (after_server_destroyed (kept.client_at s c)) (kept.client_at s c)))
+          (cond b (after_server_destroyed (kept.client_at s c)) (kept.client_at s c)) ≡ cond (b || a) (after_server_destroyed (kept.client_at s c)) (kept.client_at s c)
       go true true = gone_again (kept.client_at s c)
       go false true = refl
       go _ false = refl
@@ -156,7 +156,7 @@ module _ (k : ℕ) where
 
   pub sessions_after_sessions : (cs : List ℕ) (s : kept.State) (n : ℕ) →
       k < length s.sessions → kept.sessions_at s k ≡ cs → kept.sessions_at (kept.sessions_gone k cs s) n ≡ cond (k == n) [] (kept.sessions_at s n)
-  sessions_after_sessions [] s n small at = told_there k n (kept.sessions_at s) [] at
+  sessions_after_sessions [] s n small at = reported_there k n (kept.sessions_at s) [] at
   sessions_after_sessions (c ∷ cs) s n small at = sessions_after_sessions cs (kept.session_gone k (c ∷ cs) s) n
       (subst (λ i. k < i) (sym (length-set s.sessions k cs)) small) (now k ∙ ap (λ b. cond b cs (kept.sessions_at s k)) (eq-eqb k k refl))
       ∙ ap (λ x. cond (k == n) [] x) (now n) ∙ once_more (k == n) [] cs (kept.sessions_at s n)

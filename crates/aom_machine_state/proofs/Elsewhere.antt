@@ -18,10 +18,10 @@ use Rattle.aom_clients.specs.declared.place.MessagePlace.{MessagePlace}
 use Rattle.aom_frames.specs.declared.task.Task.{Task as Machine_task}
 use Rattle.aom_image.specs.Image.{Image}
 use Rattle.aom_image.specs.declared.method.Thing.TheVariants.{Message as A_message}
-use Rattle.aom_rules.specs.Typing.{Typing}
-use Rattle.aom_shape.specs.declared.kind.Age.TheVariants.{Ready}
-use Rattle.aom_shape.specs.declared.kind.Kind.{Kind}
-use Rattle.aom_shape.specs.declared.kind.Kind.TheVariants.{Null, Own}
+use Rattle.aom_typing_rules.specs.Typing.{Typing}
+use Rattle.aom_abstract_state.specs.declared.kind.InitState.TheVariants.{Ready}
+use Rattle.aom_abstract_state.specs.declared.kind.Kind.{Kind}
+use Rattle.aom_abstract_state.specs.declared.kind.Kind.TheVariants.{Null, Own}
 use Rattle.aom_machine_state.proofs.SafetyLemmas.{fits_unowning, own_held, queued_claim, service_unnamed}
 use Rattle.aom_machine_state.proofs.SemanticsLemmas.{named_name}
 use Rattle.aom_safety.specs.Claims.{declared}
@@ -118,11 +118,11 @@ module _ (others : Others) (us : List Machine_task) (h : Heap) (es : List Item) 
       then : kept.State
       then = kept.opened (Connecting k slots) (Some session) c s
 
-      told : session_number session ≡ session
-      told = ap (λ b. cond b null session) (ne_eqb session no_cell (λ e. absurd (omega (arith, small, e))))
+      reported : session_number session ≡ session
+      reported = ap (λ b. cond b null session) (ne_eqb session no_cell (λ e. absurd (omega (arith, small, e))))
 
       here : (n : ℕ) → session_with n (Open k session slots) ≡ cond (k == n) session (session_with n (client_at s c))
-      here n = ap (λ x. cond (k == n) x null) told ∙ ap (λ x. cond (k == n) session (session_with n x)) (sym was)
+      here n = ap (λ x. cond (k == n) x null) reported ∙ ap (λ x. cond (k == n) session (session_with n x)) (sym was)
 
       queues : ShowSame s then
       queues n m = ap (list_any (is_numbered m)) (get_or-map (filter (kept.is_no_connect_of c)) s.queues n [])

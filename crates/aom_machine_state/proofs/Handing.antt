@@ -4,17 +4,17 @@ use Rattle.std.proofs.lemmas.Bool.Decides.{nat_tests}
 use Rattle.std.proofs.Common.{List, None, Option, Some, [], ap, arith, cond, false, refl, sym, ℕ, pos, ◌+◌, ◌<◌, ◌==◌, ◌≤◌, ◌∙◌, ◌≡◌}
 use Rattle.std.specs.Prelude.{is_some, option_map}
 use Rattle.std.proofs.lemmas.Bool.{eq-eqb, eqb-true}
-use Rattle.aom_machine_state.proofs.ActiveLemmas.{asked_set}
-use Rattle.aom_active.specs.Agrees.{Active}
+use Rattle.aom_machine_state.proofs.ActiveObjectsLemmas.{asked_set}
+use Rattle.aom_active_objects.specs.Agrees.{Active}
 use Rattle.aom_cells.specs.Heap.{Heap}
-use Rattle.aom_clients.specs.Clients.{State as Kept_state}
+use Rattle.aom_clients.specs.Clients.{ClientsState as Kept_state}
 use Rattle.aom_clients.specs.declared.client.Client.{Client}
 use Rattle.aom_image.specs.Image.{Image}
 use Rattle.aom_image.specs.declared.method.Thing.TheVariants.{Message}
 use Rattle.aom_cells.specs.Store.{Changes, Store, count}
 use Rattle.aom_clients.specs.Lists.{Table}
 use Rattle.aom_cells.specs.Sessions.{Standing}
-use Rattle.aom_machine_state.proofs.SafetyLemmas.{rerequested_alike, service_asked, service_unnamed}
+use Rattle.aom_machine_state.proofs.SafetyLemmas.{request_updated_alike, service_asked, service_unnamed}
 use Rattle.aom_semantics.specs.Places.{Cell, Elsewhere, Object, Place, Request, Root, Service, Token, named, requested, service_of, set_request, unserved}
 use Rattle.aom_semantics.specs.Servers.{is_queue}
 use Rattle.aom_semantics.specs.State.{Inside}
@@ -28,7 +28,7 @@ use Rattle.aom_machine_state.proofs.Sessions.{natives_asked}
 use Rattle.aom_machine_state.proofs.Completing.{owner_unnamed}
 use Rattle.aom_machine_state.proofs.CellWords.{all_same}
 use Rattle.aom_machine_state.proofs.Serving.{names_apart}
-use Rattle.aom_machine_state.proofs.Still.{same_still, same_untold, still_requested, untold}
+use Rattle.aom_machine_state.proofs.Still.{same_still, same_unreported, still_requested, unreported}
 use Rattle.aom_machine_state.proofs.Tokens.{tokens_handed}
 use Rattle.aom_machine_state.specs.Agrees.{SameCells, SameNatives, SameRequests}
 use Rattle.aom_machine_state.specs.Services.{SameServices}
@@ -53,7 +53,7 @@ module _ (p : Image) (cs : List Cell) (o : Object) (lives : named cs o.name ≡ 
   with_its_token = with_token (message_name m) token owner us
 
   names_so : (n : ℕ) → named us n ≡ named cs n
-  names_so n = (rerequested_alike cs (Inside o (Elsewhere Root)) its).named_so n
+  names_so n = (request_updated_alike cs (Inside o (Elsewhere Root)) its).named_so n
 
   free_then : named us (message_name m) ≡ None
   free_then = names_so (message_name m) ∙ free
@@ -68,8 +68,8 @@ module _ (p : Image) (cs : List Cell) (o : Object) (lives : named cs o.name ≡ 
   natives_handed a killed few same = natives_beside p a killed us with_its_token few beside (natives_asked p a killed cs o.name its same)
 
   -- clients have the same at all names
-  services_so : (n : ℕ) → untold (service_of with_its_token n) ≡ untold (service_of us n)
-  services_so n = grind (arith, nat_tests, untold, service_unnamed, eqb-true, free_then)
+  services_so : (n : ℕ) → unreported (service_of with_its_token n) ≡ unreported (service_of us n)
+  services_so n = grind (arith, nat_tests, unreported, service_unnamed, eqb-true, free_then)
 
   pub requests_handed : (a : Active) → SameRequests p a us → SameRequests p a with_its_token
   requests_handed a same = requests_beside p a us with_its_token beside (λ n some. ap (λ (v : Service). v.queue) (services_so n)) same
@@ -78,7 +78,7 @@ module _ (p : Image) (cs : List Cell) (o : Object) (lives : named cs o.name ≡ 
   clients_handed k clients same = grind (
     arith,
     nat_tests,
-    same_untold k,
+    same_unreported k,
     services_so,
     same_still k cs,
     still_requested cs o.name,

@@ -2,17 +2,17 @@
 use Rattle.std.proofs.lemmas.Bool.Decides.{nat_tests}
 use Rattle.std.proofs.Common.{List, None, Some, [], ap, arith, length, refl, subst, suc, sym, ℕ, ℤ, ◌+◌, ◌-◌, ◌∙◌, ◌∷◌, ◌≡◌, ◌≤◌}
 use Rattle.aom_image.specs.Image.{Image}
-use Rattle.aom_shape.specs.Kinds.{register}
-use Rattle.aom_shape.specs.Shape.{Shape}
-use Rattle.aom_rules.specs.Typing.{Typing, shape_at}
-use Rattle.aom_shape.specs.declared.kind.CleanupEntry.{CleanupEntry}
-use Rattle.aom_shape.specs.declared.kind.CleanupEntry.TheVariants.{Object as Pushed_object, Operation as Pushed_operation}
-use Rattle.aom_shape.specs.declared.kind.Kind.TheVariants.{Null}
+use Rattle.aom_abstract_state.specs.Kinds.{register}
+use Rattle.aom_abstract_state.specs.AbstractState.{AbstractState}
+use Rattle.aom_typing_rules.specs.Typing.{Typing, shape_at}
+use Rattle.aom_abstract_state.specs.declared.kind.CleanupEntry.{CleanupEntry}
+use Rattle.aom_abstract_state.specs.declared.kind.CleanupEntry.TheVariants.{Object as Pushed_object, Operation as Pushed_operation}
+use Rattle.aom_abstract_state.specs.declared.kind.Kind.TheVariants.{Null}
 use Rattle.aom_machine_state.proofs.SafetyLemmas.{claim_entry_above, fits_unowning, leave_layer, length_forms, length_objects, method_layer, register_fits}
 use Rattle.aom_safety.specs.Claims.{Dispatching, Dying, Ending, Form, Layer, Mark, Method, Unwinding, forms, items_of, objects, tasks_of}
 use Rattle.aom_semantics.specs.Places.{Cell, Entry, Register, held, seen}
-use Rattle.aom_semantics.specs.State.{An_object, An_operation, Frame, Item, Run, State, Task, Trapped, Unwind, home_holder}
-use Rattle.aom_safety.specs.WellTyped.{Houses, Back, Caught, Fits, Gone, Good, CountsAs, Leaves, Now, Returns, Stack, WellTyped}
+use Rattle.aom_semantics.specs.State.{An_object, An_operation, Frame, Item, Run, State, Task, Trapped, Unwind, receiver_holder}
+use Rattle.aom_safety.specs.WellTyped.{ReceiverConforms, Back, Caught, Fits, Gone, Good, CountsAs, Leaves, Now, Returns, Stack, WellTyped}
 use Rattle.aom_machine_state.specs.Room.{below_height, entries_in}
 use Rattle.aom_machine_state.proofs.Depths.{AllLow, below_all, below_pushed}
 use Rattle.aom_roles.specs.Things.{holder_of}
@@ -21,12 +21,12 @@ use Rattle.aom_roles.specs.Things.{holder_of}
 low_stack : (p : Image) (t : Typing) (cs : List Cell) (back : Back) (ls : List Layer) (n : ℕ) → Stack p t cs back ls →
     length (items_of ls) ≤ n → AllLow n (tasks_of ls)
 low_stack p t cs back [] n s le = tt
-low_stack p t cs back (Method fr sh ∷ ls) n s le = grind (arith, nat_tests, length_objects sh.entries, low_stack p t cs (Returns fr.method fr.home) ls n s.4)
+low_stack p t cs back (Method fr sh ∷ ls) n s le = grind (arith, nat_tests, length_objects sh.entries, low_stack p t cs (Returns fr.method fr.receiver) ls n s.4)
 low_stack p t cs back (Mark gv ∷ ls) n s le = low_stack p t cs (Caught gv) ls n s.1 (omega (arith, le))
 low_stack p t cs back (Dying o ∷ ls) n s le = low_stack p t cs Gone ls n s.2 le
 low_stack p t cs back (Ending o left ∷ ls) n s le = low_stack p t cs Now ls n s.3 le
 low_stack p t cs back (Unwinding code es ∷ ls) n s le = low_stack p t cs Leaves ls n s.1 (omega (arith, length_objects es (items_of ls), le))
-low_stack p t cs back (Dispatching d seats ∷ ls) n s le = subst (λ us. AllLow n (tasks_of us)) (sym s.1) tt
+low_stack p t cs back (Dispatching d owned_chain ∷ ls) n s le = subst (λ us. AllLow n (tasks_of us)) (sym s.1) tt
 
 -- under a trap the methods began where its mark was not there yet
 abbrev pub LowUnder : ℕ → List Task → Type 0
@@ -40,13 +40,13 @@ low_under p t cs back _ s = tt
 
 -- what is known where a method runs
 pub record Stands_here (p : Image) (t : Typing) (s : State) (fr : Frame) (ts : List Task) : Type 0 where
-  pub shape : Shape
+  pub shape : AbstractState
   pub below : List Form
   pub there : shape_at t fr.method fr.place ≡ Some shape
   pub items : forms s.items ≡ objects shape.entries below
   pub height : fr.height ≡ length below
-  pub holder : Houses p (home_holder fr.home) (holder_of p fr.method)
-  pub view : CountsAs p (home_holder fr.home) fr.view (holder_of p fr.method)
+  pub holder : ReceiverConforms p (receiver_holder fr.receiver) (holder_of p fr.method)
+  pub view : CountsAs p (receiver_holder fr.receiver) fr.view (holder_of p fr.method)
   pub low : AllLow fr.height ts
   pub low_under : LowUnder fr.height ts
   pub fits : (a : ℕ) → Fits p (seen s.cells) (held s.cells (Register (length ts) a)) (register shape a)
@@ -66,8 +66,8 @@ stands_here p t s fr ts w at =
       height = high;
       holder = h.1.stack.1.holder;
       view = h.1.stack.1.view;
-      low = subst (λ us. AllLow fr.height us) under (low_stack p t s.cells (Returns fr.method fr.home) ls fr.height h.1.stack.4 (omega (arith, high)));
-      low_under = grind (arith, nat_tests, low_under p t s.cells (Returns fr.method fr.home) ls h.1.stack.4);
+      low = subst (λ us. AllLow fr.height us) under (low_stack p t s.cells (Returns fr.method fr.receiver) ls fr.height h.1.stack.4 (omega (arith, high)));
+      low_under = grind (arith, nat_tests, low_under p t s.cells (Returns fr.method fr.receiver) ls h.1.stack.4);
       fits = λ a. subst (λ us. Fits p (seen s.cells) (held s.cells (Register (length us) a)) (register sh a)) under (register_fits p s.cells fr sh ls h.1.fits a);
       free = fits_unowning p (seen s.cells) _ Null refl
           (subst (λ k. Fits p (seen s.cells) (held s.cells (Entry (length s.items))) k) none (h.1.fits (Entry (length s.items))));

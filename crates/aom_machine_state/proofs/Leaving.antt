@@ -17,7 +17,7 @@ use Rattle.aom_image.specs.Image.{Image}
 use Rattle.aom_roles.specs.Things.{is_object}
 use Rattle.aom_cells.specs.Store.{Store, count, message_at}
 use Rattle.aom_roles.specs.Shapes.{kind_of}
-use Rattle.aom_rules.specs.Typing.{Typing}
+use Rattle.aom_typing_rules.specs.Typing.{Typing}
 use Rattle.aom_machine_state.proofs.SafetyLemmas.{a_cell_of, cell_in, cell_lives, cell_name, cell_of, cell_owner, cell_placed, from_some, held_cell, named_cell}
 use Rattle.aom_machine_state.proofs.SafetyLemmas.{object_in, request_in, requested_cell, service_cell, service_in, unqueued_so}
 use Rattle.aom_machine_state.proofs.SafetyLemmas.{waiting_message as queued_message, withdrawn_so}
@@ -27,12 +27,12 @@ use Rattle.aom_semantics.specs.Places.{Cell, Elsewhere, Object, Place as Owner, 
 use Rattle.aom_semantics.specs.Servers.{has_message, holds_slot, is_among, is_from, is_message, is_queue, is_queue_of, left_by, withdrawn, without_queue}
 use Rattle.aom_semantics.specs.State.{State}
 use Rattle.aom_safety.specs.WellTyped.{WellTyped}
-use Rattle.aom_machine_state.proofs.Beside.{Beside, beside_sifted, holds_sifted}
+use Rattle.aom_machine_state.proofs.Beside.{Beside, beside_filtered_cells, holds_filtered_cells}
 use Rattle.aom_machine_state.proofs.Departing.{is_at}
-use Rattle.aom_machine_state.proofs.Forgetting.{Forgets, messages_sifted}
+use Rattle.aom_machine_state.proofs.Forgetting.{Forgets, messages_filtered_cells}
 use Rattle.aom_machine_state.proofs.Premises.{asked_there, asking, waiting_there}
-use Rattle.aom_machine_state.proofs.Told.{Told_alike, told_sifted, untold_sent}
-use Rattle.aom_machine_state.proofs.Vanishing.{asks_message}
+use Rattle.aom_machine_state.proofs.Reported.{Reported_alike, reported_filtered_cells, unreported_sent}
+use Rattle.aom_machine_state.proofs.Reclaiming.{asks_message}
 use Rattle.aom_machine_state.proofs.Withdrawing.{owner_cell, owner_in, queue_owner, queue_of_owner, queue_of_queue}
 use Rattle.aom_machine_state.specs.Messages.{SameMessages, is_a_message}
 use Rattle.aom_machine_state.specs.Serving.{Once, SameClients, asked_by, holds, message_name, owner_of, sent_by, waits_in}
@@ -79,7 +79,7 @@ module _ (p : Image) (t : Typing) (wired : IsWired p) (s : State) (w : WellTyped
   waiting_message n x e h =
       let q = queue_owner x.owner h in
       let there : held s.cells (Elsewhere (Waits_at q.0 q.1)) ≡ Some x.object = ap (held s.cells) (sym q.2) ∙ held_cell s.cells x.owner
-      ∙ ap object_in (cell_placed s.cells n x w.good.tidy e) in
+      ∙ ap object_in (cell_placed s.cells n x w.good.no_duplicates e) in
       ap is_object (queued_message p t wired s w q.0 q.1 x.object there)
 
   -- and its number is past those of cells
@@ -148,8 +148,8 @@ module _ (p : Image) (t : Typing) (wired : IsWired p) (s : State) (w : WellTyped
     freed_kept before kept_so = forgotten_kept (forgets before kept_so) kept_so
 
     pub messages_withdrawn : Taking p freed s.cells (withdrawn c s.cells)
-    messages_withdrawn before after gone others limit fewer kept_so = subst (SameMessages p after) (sym (withdrawn_so c s.cells)) (messages_sifted drops
-        (λ x. left_by c x.service) p before after freed freed_once s.cells w.good.tidy (forgets before kept_so) gone others limit fewer kept_so)
+    messages_withdrawn before after gone others limit fewer kept_so = subst (SameMessages p after) (sym (withdrawn_so c s.cells)) (messages_filtered_cells drops
+        (λ x. left_by c x.service) p before after freed freed_once s.cells w.good.no_duplicates (forgets before kept_so) gone others limit fewer kept_so)
 
   -- ---- a server goes
 
@@ -176,7 +176,7 @@ module _ (p : Image) (t : Typing) (wired : IsWired p) (s : State) (w : WellTyped
             let place = cell_owner s.cells (Elsewhere (Waits_at n (message_name m))) z.0 z.1 in
             let here : is_queue_of n z.0.owner ≡ true = ap (is_queue_of n) place ∙ eq-eqb n n refl in
             let cell : cell_of s.cells (message_name m) ≡ Some z.0 = ap (cell_of s.cells) (sym (ap (λ (o : Object). o.name) z.2 ∙ y.2))
-            ∙ cell_lives s.cells (Elsewhere (Waits_at n (message_name m))) z.0 w.good.tidy z.1 in
+            ∙ cell_lives s.cells (Elsewhere (Waits_at n (message_name m))) z.0 w.good.no_duplicates z.1 in
             (z.0, cell, here, waiting_message (message_name m) z.0 cell (queue_of_queue n z.0.owner here))
 
         gone : (i : ℕ) (x : Cell) → cell_of s.cells i ≡ Some x → is_queue_of n x.owner ≡ true → (m : ℕ) × (i ≡ message_name m) × (is_among m waiting ≡ true)
@@ -184,7 +184,7 @@ module _ (p : Image) (t : Typing) (wired : IsWired p) (s : State) (w : WellTyped
             let m = message_place before kept_so i x e (queue_of_queue n x.owner h) in
             let q = queue_of_owner n x.owner h in
             let there : held s.cells (Elsewhere (Waits_at n q.0)) ≡ Some x.object = ap (held s.cells) (sym q.1) ∙ held_cell s.cells x.owner
-            ∙ ap object_in (cell_placed s.cells i x w.good.tidy e) in
+            ∙ ap object_in (cell_placed s.cells i x w.good.no_duplicates e) in
             let a = asked_there p t wired s w s.clients fit n q.0 x.object there in
             (m.0, m.1, asked_so m.0 ∙ ap (has_message (service_of s.cells n)) (sym m.1 ∙ sym (cell_name s.cells i x e) ∙ a.0) ∙ a.1)
 
@@ -194,8 +194,8 @@ module _ (p : Image) (t : Typing) (wired : IsWired p) (s : State) (w : WellTyped
 
     pub messages_unqueued : Taking p waiting s.cells (without_queue n s.cells)
     messages_unqueued before after gone others limit fewer kept_so =
-        subst (SameMessages p after) (sym (unqueued_so n s.cells)) (messages_sifted (λ x. is_queue_of n x.owner)
-        (λ x. x.service) p before after waiting waiting_once s.cells w.good.tidy (unqueues before kept_so) gone others limit fewer kept_so)
+        subst (SameMessages p after) (sym (unqueued_so n s.cells)) (messages_filtered_cells (λ x. is_queue_of n x.owner)
+        (λ x. x.service) p before after waiting waiting_once s.cells w.good.no_duplicates (unqueues before kept_so) gone others limit fewer kept_so)
 
   -- ---- all else stays where these messages go
 
@@ -211,8 +211,8 @@ module _ (p : Image) (t : Typing) (wired : IsWired p) (s : State) (w : WellTyped
     named_cell s.cells x.object.name,
     object_in,
     cell_of s.cells x.object.name,
-    cell_lives s.cells x.owner x w.good.tidy (cell_placed s.cells n x w.good.tidy e),
-    cell_placed s.cells n x w.good.tidy e,
+    cell_lives s.cells x.owner x w.good.no_duplicates (cell_placed s.cells n x w.good.no_duplicates e),
+    cell_placed s.cells n x w.good.no_duplicates e,
   )
 
   gone_message : (before : Store) → SameMessages p before s.cells →
@@ -221,25 +221,25 @@ module _ (p : Image) (t : Typing) (wired : IsWired p) (s : State) (w : WellTyped
       (omega (arith, name), waiting_message n x e h, waiting_unasked n x e h)
 
   pub beside_withdrawn : (before : Store) → SameMessages p before s.cells → (c : ℕ) → Beside s.cells (withdrawn c s.cells)
-  beside_withdrawn before kept_so c = subst (Beside s.cells) (sym (withdrawn_so c s.cells)) (beside_sifted (drops c) (λ x. left_by c x.service) s.cells
-      w.good.tidy (λ n x e h. gone_message before kept_so n x e (and_parts (is_queue x.owner) (is_from c x.service.sender) h).0))
+  beside_withdrawn before kept_so c = subst (Beside s.cells) (sym (withdrawn_so c s.cells)) (beside_filtered_cells (drops c) (λ x. left_by c x.service) s.cells
+      w.good.no_duplicates (λ n x e h. gone_message before kept_so n x e (and_parts (is_queue x.owner) (is_from c x.service.sender) h).0))
 
   pub beside_unqueued : (before : Store) → SameMessages p before s.cells → (n : ℕ) → Beside s.cells (without_queue n s.cells)
   beside_unqueued before kept_so n = subst (Beside s.cells) (sym (unqueued_so n s.cells))
-      (beside_sifted (λ x. is_queue_of n x.owner) (λ x. x.service) s.cells w.good.tidy (λ i x e h. gone_message before kept_so i x e (queued x.owner h)))
+      (beside_filtered_cells (λ x. is_queue_of n x.owner) (λ x. x.service) s.cells w.good.no_duplicates (λ i x e h. gone_message before kept_so i x e (queued x.owner h)))
     where
       queued : (q : Owner) → is_queue_of n q ≡ true → is_queue q ≡ true
       queued x h = grind arith
 
   -- what waits was sent, and is no token
-  sent_untold : (n : ℕ) (x : Cell) → cell_of s.cells n ≡ Some x → is_queue x.owner ≡ true → is_some x.service.sender ≡ true → x.service.token ≡ None
-  sent_untold n x e h sent = grind (
+  sent_unreported : (n : ℕ) (x : Cell) → cell_of s.cells n ≡ Some x → is_queue x.owner ≡ true → is_some x.service.sender ≡ true → x.service.token ≡ None
+  sent_unreported n x e h sent = grind (
     arith,
     nat_tests,
-    untold_sent x.service,
+    unreported_sent x.service,
     cell_of s.cells x.object.name,
-    cell_lives s.cells x.owner x w.good.tidy (cell_placed s.cells n x w.good.tidy e),
-    cell_placed s.cells n x w.good.tidy e,
+    cell_lives s.cells x.owner x w.good.no_duplicates (cell_placed s.cells n x w.good.no_duplicates e),
+    cell_placed s.cells n x w.good.no_duplicates e,
     service_cell s.cells x.object.name,
     service_in,
     named_cell s.cells x.object.name,
@@ -247,12 +247,12 @@ module _ (p : Image) (t : Typing) (wired : IsWired p) (s : State) (w : WellTyped
     waiting_message n x e h,
   )
 
-  pub told_withdrawn : (c : ℕ) → Told_alike s.cells (withdrawn c s.cells)
-  told_withdrawn c = grind (arith, nat_tests, Told_alike s.cells, withdrawn_so c s.cells, told_sifted, sent_untold, from_some c)
+  pub reported_withdrawn : (c : ℕ) → Reported_alike s.cells (withdrawn c s.cells)
+  reported_withdrawn c = grind (arith, nat_tests, Reported_alike s.cells, withdrawn_so c s.cells, reported_filtered_cells, sent_unreported, from_some c)
 
-  pub told_unqueued : (before : Store) → SameMessages p before s.cells → (n : ℕ) → Told_alike s.cells (without_queue n s.cells)
-  told_unqueued before kept_so n =
-      subst (Told_alike s.cells) (sym (unqueued_so n s.cells)) (told_sifted (λ x. is_queue_of n x.owner) (λ x. x.service) s.cells w.good.tidy none (λ x. refl))
+  pub reported_unqueued : (before : Store) → SameMessages p before s.cells → (n : ℕ) → Reported_alike s.cells (without_queue n s.cells)
+  reported_unqueued before kept_so n =
+      subst (Reported_alike s.cells) (sym (unqueued_so n s.cells)) (reported_filtered_cells (λ x. is_queue_of n x.owner) (λ x. x.service) s.cells w.good.no_duplicates none (λ x. refl))
     where
       none : (i : ℕ) (x : Cell) → cell_of s.cells i ≡ Some x → is_queue_of n x.owner ≡ true → x.service.token ≡ None
       none i x e h =
@@ -261,11 +261,11 @@ module _ (p : Image) (t : Typing) (wired : IsWired p) (s : State) (w : WellTyped
           let from = fit.senders n c.0 (message_name m.0) c.1 in
           let its : service_of s.cells (message_name m.0) ≡ x.service = service_cell s.cells (message_name m.0)
           ∙ ap service_in (ap (cell_of s.cells) (sym m.1) ∙ e) in
-          sent_untold i x e (queue_of_queue n x.owner h) (from_some c.0 x.service.sender (ap (λ (v : Service). is_from c.0 v.sender) (sym its) ∙ from))
+          sent_unreported i x e (queue_of_queue n x.owner h) (from_some c.0 x.service.sender (ap (λ (v : Service). is_from c.0 v.sender) (sym its) ∙ from))
 
   -- and what no queue owns
   pub holds_withdrawn : (c : ℕ) (r : Owner) → is_queue r ≡ false → held (withdrawn c s.cells) r ≡ held s.cells r
-  holds_withdrawn c r apart = grind (arith, nat_tests, withdrawn_so c s.cells, holds_sifted)
+  holds_withdrawn c r apart = grind (arith, nat_tests, withdrawn_so c s.cells, holds_filtered_cells)
 
   pub holds_unqueued : (n : ℕ) (r : Owner) → is_queue r ≡ false → held (without_queue n s.cells) r ≡ held s.cells r
-  holds_unqueued n r apart = grind (arith, nat_tests, unqueued_so n s.cells, holds_sifted)
+  holds_unqueued n r apart = grind (arith, nat_tests, unqueued_so n s.cells, holds_filtered_cells)

@@ -10,14 +10,14 @@ mod CellFields
 mod Depths
 mod Heights
 mod Alike
-mod Unslotted
+mod SlotReleased
 mod Messages
 mod Serving
 mod Completing
 mod Withdrawing
 mod Listing
 mod Departing
-mod Vanishing
+mod Reclaiming
 mod Elsewhere
 mod Still
 mod Premises
@@ -28,17 +28,17 @@ mod Sizing
 mod Commanding
 mod Forgetting
 mod Leaving
-mod Telling
+mod Reporting
 mod Beside
-mod Told
+mod Reported
 mod Replying
 mod Redeeming
 mod Handing
 mod Beginning
 mod Owed
 pub mod MachineStateLemmas
-pub use Rattle.aom_active.proofs.ActiveLemmas
-pub use Rattle.aom_classes.proofs.ClassesLemmas
+pub use Rattle.aom_active_objects.proofs.ActiveObjectsLemmas
+pub use Rattle.aom_link_conditions.proofs.LinkConditionsLemmas
 pub use Rattle.aom_clients.proofs.ClientsLemmas
 pub use Rattle.aom_image.proofs.ImageLemmas
 pub use Rattle.aom_safety.proofs.SafetyLemmas

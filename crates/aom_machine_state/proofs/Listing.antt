@@ -17,7 +17,7 @@ use Rattle.aom_image.specs.declared.method.Thing.TheVariants.{Object as An_objec
 use Rattle.aom_clients.specs.Lists.{Table, first_of, list_at, with_list, without as without_node}
 use Rattle.aom_machine_state.proofs.SafetyLemmas.{listed_there}
 use Rattle.aom_semantics.specs.Clients.{Listed, among_listed, asked_server, earlier, first_listed, is_of_class}
-use Rattle.aom_semantics.specs.Places.{Cell, Object, Request, Tidy, named, requested}
+use Rattle.aom_semantics.specs.Places.{Cell, Object, Request, NoDuplicates, named, requested}
 use Rattle.aom_semantics.specs.Servers.{is_among, is_server}
 use Rattle.aom_machine_state.specs.Cells.{unlisted}
 use Rattle.aom_machine_state.specs.Listing.{SameListed, is_listed, lists, order_in}
@@ -69,15 +69,15 @@ found class (c ∷ cs) n o r is asked of = go (c.object.name == n) is asked (λ 
 abbrev OrderOf : List Cell → Listed → Type 0
 OrderOf cs x = (r : Request) × (requested cs x.name ≡ Some r) × (x.order ≡ r.order)
 
-ordered : (class : ℕ) (cs : List Cell) (x : Listed) → Tidy cs → first_listed class cs ≡ Some x → OrderOf cs x
-ordered class [] x tidy e = absurd (none-some _ e)
-ordered class (c ∷ cs) x tidy e = by c.request refl e (λ e. ordered class cs x tidy.2 e)
+ordered : (class : ℕ) (cs : List Cell) (x : Listed) → NoDuplicates cs → first_listed class cs ≡ Some x → OrderOf cs x
+ordered class [] x no_duplicates e = absurd (none-some _ e)
+ordered class (c ∷ cs) x no_duplicates e = by c.request refl e (λ e. ordered class cs x no_duplicates.2 e)
   where
     -- another name stands below
     later : first_listed class cs ≡ Some x → OrderOf cs x → OrderOf (c ∷ cs) x
     later e (r, asked, same) =
-        let l = listed_there class cs x tidy.2 e in
-        let other : (c.object.name == x.name) ≡ false = ne_eqb c.object.name x.name (λ same. none-some _ (sym tidy.1 ∙ ap (named cs) (same ∙ sym l.1) ∙ l.2)) in
+        let l = listed_there class cs x no_duplicates.2 e in
+        let other : (c.object.name == x.name) ≡ false = ne_eqb c.object.name x.name (λ same. none-some _ (sym no_duplicates.1 ∙ ap (named cs) (same ∙ sym l.1) ∙ l.2)) in
         (r, ap (λ b. cond b c.request (requested cs x.name)) other ∙ asked, same)
 
     by : (q : Option Request) → c.request ≡ q → among_listed class c.object q (first_listed class cs) ≡ Some x →
@@ -143,17 +143,17 @@ after_first f n ns m order among = go ns (λ i within. order 0 (suc i) 0 (omega 
         by false other e rest = rest e
 
 -- the first of the list of a class is whom a connect asks
-pub first_asked : (p : Image) (t : Table) (cs : List Cell) → Tidy cs → SameListed p t cs → (class : ℕ) →
+pub first_asked : (p : Image) (t : Table) (cs : List Cell) → NoDuplicates cs → SameListed p t cs → (class : ℕ) →
     first_of (list_at t class) ≡ option_map (λ (x : Listed). x.name) (asked_server p class cs)
-first_asked p t cs tidy same class = go (list_at t class) (λ n. same.there n class) (same.order class)
+first_asked p t cs no_duplicates same class = go (list_at t class) (λ n. same.there n class) (same.order class)
   where
     order : ℕ → ℕ
     order n = order_in (requested cs n)
 
     in_list : (x : Listed) → first_listed class cs ≡ Some x → is_server p (An_object_of class) ≡ true → is_listed p cs class x.name ≡ true
     in_list x e serves =
-        let l = listed_there class cs x tidy e in
-        let r = ordered class cs x tidy e in
+        let l = listed_there class cs x no_duplicates e in
+        let r = ordered class cs x no_duplicates e in
         listed_entry p cs class x.name l.0 r.0 (ap (named cs) (sym l.1) ∙ l.2) r.1 (serves_class p class l.0.thing l.3 ∙ serves) l.3
 
     go : (ns : List ℕ) → ((n : ℕ) → is_among n ns ≡ is_listed p cs class n) → AllPairs (λ a b. order a < order b) ns →
@@ -174,7 +174,7 @@ first_asked p t cs tidy same class = go (list_at t class) (λ n. same.there n cl
         let me = entry p cs class n (sym (there n) ∙ ap (λ b. b || is_among n ns) (eq-eqb n n refl)) in
         let f = found class cs n me.object me.request me.lives me.asked me.of in
         let serves : is_server p (An_object_of class) ≡ true = sym (serves_class p class me.object.thing me.of) ∙ me.serves in
-        let r = ordered class cs f.0 tidy f.1 in
+        let r = ordered class cs f.0 no_duplicates f.1 in
         let low : f.0.order ≤ me.request.order = f.2 in
         let is : order n ≡ me.request.order = ap order_in me.asked in
         let has : order f.0.name ≡ f.0.order = ap order_in r.1 ∙ sym r.2 in

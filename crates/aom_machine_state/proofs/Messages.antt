@@ -10,13 +10,13 @@ use Rattle.aom_image.specs.declared.method.Thing.TheVariants.{Message}
 use Rattle.aom_roles.specs.Things.{is_object}
 use Rattle.aom_cells.specs.Store.{Changes, Store, count, message_at, word_at, word_of}
 use Rattle.aom_roles.specs.Tables.{at}
-use Rattle.aom_machine_state.proofs.SafetyLemmas.{counted_by, counted_without, each_unslotted_alike, named_served, named_set_word, rerequested_alike}
-use Rattle.aom_machine_state.proofs.SafetyLemmas.{resessioned_alike}
+use Rattle.aom_machine_state.proofs.SafetyLemmas.{counted_by, counted_without, each_slot_released_alike, named_served, named_set_word, request_updated_alike}
+use Rattle.aom_machine_state.proofs.SafetyLemmas.{session_updated_alike}
 use Rattle.aom_machine_state.proofs.SemanticsLemmas.{named_moved, named_without, unnamed}
-use Rattle.aom_semantics.specs.Clients.{count_messages, each_unslotted}
-use Rattle.aom_semantics.specs.Places.{Cell, Object, Place, Request, Service, Tidy, held, moved, named, Register, set_request}
+use Rattle.aom_semantics.specs.Clients.{count_messages, each_slot_released}
+use Rattle.aom_semantics.specs.Places.{Cell, Object, Place, Request, Service, NoDuplicates, held, moved, named, Register, set_request}
 use Rattle.aom_semantics.specs.Places.{set_service, set_session, set_word_field, with_new, without, word_field}
-use Rattle.aom_semantics.specs.Servers.{all_unslotted}
+use Rattle.aom_semantics.specs.Servers.{all_slot_released}
 use Rattle.aom_semantics.specs.State.{Inside}
 use Rattle.aom_machine_state.specs.Messages.{SameMessages, is_a_message}
 use Rattle.aom_machine_state.specs.Serving.{message_name}
@@ -24,7 +24,7 @@ use Rattle.aom_machine_state.proofs.Asking.{words_asked}
 use Rattle.aom_machine_state.proofs.Cells.{words_without}
 use Rattle.aom_machine_state.proofs.CellWords.{words_moved, words_other, words_unnamed}
 use Rattle.aom_machine_state.proofs.Sessions.{words_opened}
-use Rattle.aom_machine_state.proofs.Unslotted.{each_words}
+use Rattle.aom_machine_state.proofs.SlotReleased.{each_words}
 
 -- ---- how many there are
 
@@ -51,13 +51,13 @@ many_served : (cs : List Cell) (n : ℕ) (v : Service) → count_messages (set_s
 many_served [] n v = refl
 many_served (c ∷ cs) n v = one_more c (count_messages (set_service n v cs)) (count_messages cs) (many_served cs n v)
 
-many_unslotted : (c : ℕ) (cs : List Cell) → count_messages (all_unslotted c cs) ≡ count_messages cs
-many_unslotted c [] = refl
-many_unslotted c (x ∷ xs) = one_more x (count_messages (all_unslotted c xs)) (count_messages xs) (many_unslotted c xs)
+many_slot_released : (c : ℕ) (cs : List Cell) → count_messages (all_slot_released c cs) ≡ count_messages cs
+many_slot_released c [] = refl
+many_slot_released c (x ∷ xs) = one_more x (count_messages (all_slot_released c xs)) (count_messages xs) (many_slot_released c xs)
 
-each_many : (clients : List ℕ) (cs : List Cell) → count_messages (each_unslotted clients cs) ≡ count_messages cs
+each_many : (clients : List ℕ) (cs : List Cell) → count_messages (each_slot_released clients cs) ≡ count_messages cs
 each_many [] cs = refl
-each_many (c ∷ clients) cs = each_many clients (all_unslotted c cs) ∙ many_unslotted c cs
+each_many (c ∷ clients) cs = each_many clients (all_slot_released c cs) ∙ many_slot_released c cs
 
 words_served : (cs : List Cell) (n : ℕ) (v : Service) (k w : ℕ) → word_field (set_service n v cs) k w ≡ word_field cs k w
 words_served [] n v k w = refl
@@ -71,9 +71,9 @@ messages_in (Some o) = cond (is_object o.thing) 0 1
 messages_counted : (o : Option Object) → counted_by (λ t. not (is_object t)) o ≡ messages_in o
 messages_counted x = grind arith
 
-pub many_without : (cs : List Cell) (g : Place) → Tidy cs → count_messages cs ≡ messages_in (held cs g) + count_messages (without g cs)
-many_without cs g tidy = counted_without (record { passes = λ t. not (is_object t); some = λ c cs. go (is_object c.object.thing) (count_messages cs) })
-    cs g tidy ∙ ap (λ n. n + count_messages (without g cs)) (messages_counted (held cs g))
+pub many_without : (cs : List Cell) (g : Place) → NoDuplicates cs → count_messages cs ≡ messages_in (held cs g) + count_messages (without g cs)
+many_without cs g no_duplicates = counted_without (record { passes = λ t. not (is_object t); some = λ c cs. go (is_object c.object.thing) (count_messages cs) })
+    cs g no_duplicates ∙ ap (λ n. n + count_messages (without g cs)) (messages_counted (held cs g))
   where
     go : (b : Bool) (n : ℕ) → cond b n (suc n) ≡ cond (not b) (suc n) n
     go x n = grind arith
@@ -83,9 +83,9 @@ many_without cs g tidy = counted_without (record { passes = λ t. not (is_object
 name_apart : (n m : ℕ) → n < message_name 0 → (n == message_name m) ≡ false
 name_apart n m small = ne_eqb n (message_name m) (λ e. absurd (omega (arith, small, e)))
 
-is_message_without : (cs : List Cell) (g : Place) (o : Object) → Tidy cs →
+is_message_without : (cs : List Cell) (g : Place) (o : Object) → NoDuplicates cs →
     held cs g ≡ Some o → is_object o.thing ≡ true → named cs o.name ≡ Some o → (n : ℕ) → is_a_message (named (without g cs) n) ≡ is_a_message (named cs n)
-is_message_without cs g o tidy holds object lives n = grind (arith, nat_tests, eqb-true o.name n, unnamed cs g o tidy holds, named_without cs g o n tidy holds)
+is_message_without cs g o no_duplicates holds object lives n = grind (arith, nat_tests, eqb-true o.name n, unnamed cs g o no_duplicates holds, named_without cs g o n no_duplicates holds)
 
 -- ---- the store
 
@@ -112,11 +112,11 @@ module _ (p : Image) (store : Store) where
       grind (arith, nat_tests, messages_as cs, named_set_word cs n w v, words_other cs n w v, name_apart n, many_written cs n w v)
 
   pub messages_asked : (cs : List Cell) (n : ℕ) (r : Option Request) → SameMessages p store cs → SameMessages p store (set_request n r cs)
-  messages_asked cs n r h = messages_as cs (set_request n r cs) (λ k. ap is_a_message ((rerequested_alike cs
+  messages_asked cs n r h = messages_as cs (set_request n r cs) (λ k. ap is_a_message ((request_updated_alike cs
       (Inside (record { name = n; thing = Message }) (Register 0 0)) r).named_so k)) (λ m w. words_asked cs n r (message_name m) w) (many_asked cs n r) h
 
   pub messages_opened : (cs : List Cell) (n : ℕ) (b : Bool) → SameMessages p store cs → SameMessages p store (set_session n b cs)
-  messages_opened cs n b h = messages_as cs (set_session n b cs) (λ k. ap is_a_message ((resessioned_alike cs
+  messages_opened cs n b h = messages_as cs (set_session n b cs) (λ k. ap is_a_message ((session_updated_alike cs
       (Inside (record { name = n; thing = Message }) (Register 0 0)) b).named_so k)) (λ m w. words_opened cs n b (message_name m) w) (many_opened cs n b) h
 
   -- what clients have at a cell
@@ -124,8 +124,8 @@ module _ (p : Image) (store : Store) where
   messages_served cs n v h =
       messages_as cs (set_service n v cs) (λ k. ap is_a_message (named_served cs n v k)) (λ m w. words_served cs n v (message_name m) w) (many_served cs n v) h
 
-  pub messages_unslotted : (clients : List ℕ) (cs : List Cell) → SameMessages p store cs → SameMessages p store (each_unslotted clients cs)
-  messages_unslotted clients cs h = grind (arith, nat_tests, messages_as cs, each_unslotted_alike clients cs, each_words clients cs, each_many clients cs)
+  pub messages_slot_released : (clients : List ℕ) (cs : List Cell) → SameMessages p store cs → SameMessages p store (each_slot_released clients cs)
+  messages_slot_released clients cs h = grind (arith, nat_tests, messages_as cs, each_slot_released_alike clients cs, each_words clients cs, each_many clients cs)
 
   -- a new cell is no message
   pub messages_made : (cs : List Cell) (n : ℕ) (thing : Thing) (words : List ℤ) (owner : Place) →
@@ -133,40 +133,40 @@ module _ (p : Image) (store : Store) where
   messages_made cs n thing words owner fresh small object h = grind (arith, nat_tests, messages_as cs, name_apart n, eqb-true n)
 
   -- an object goes
-  pub messages_without : (cs : List Cell) (g : Place) (o : Object) → Tidy cs → held cs g ≡ Some o →
+  pub messages_without : (cs : List Cell) (g : Place) (o : Object) → NoDuplicates cs → held cs g ≡ Some o →
       named cs o.name ≡ Some o → is_object o.thing ≡ true → o.name < message_name 0 → SameMessages p store cs → SameMessages p store (without g cs)
-  messages_without cs g o tidy holds lives object small h = grind (
+  messages_without cs g o no_duplicates holds lives object small h = grind (
     arith,
     nat_tests,
     messages_as cs,
-    is_message_without cs g o tidy holds object lives,
+    is_message_without cs g o no_duplicates holds object lives,
     words_without cs g o,
     name_apart o.name,
-    many_without cs g tidy,
+    many_without cs g no_duplicates,
   )
 
 -- ---- a message comes and goes
 
 -- the message at a place goes
-pub message_gone : (p : Image) (old new : Store) (cs : List Cell) (g : Place) (o : Object) (m : ℕ) → SameMessages p old cs → Tidy cs → held cs g ≡ Some o →
+pub message_gone : (p : Image) (old new : Store) (cs : List Cell) (g : Place) (o : Object) (m : ℕ) → SameMessages p old cs → NoDuplicates cs → held cs g ≡ Some o →
     is_object o.thing ≡ false → o.name ≡ message_name m → Changes old new m None → count new + 1 ≡ count old → SameMessages p new (without g cs)
-message_gone p old new cs g o m h tidy holds message name ch less = record {
+message_gone p old new cs g o m h no_duplicates holds message name ch less = record {
   there = λ k. by k (m == k) refl;
   within = λ k high. none_past k high (m == k) refl;
   past = λ n small. ap is_a_message (still n (ap (λ i. i == n) name ∙ ne_eqb (message_name m) n (λ e. absurd (omega (arith, small, e))))) ∙ h.past n small;
   words = λ k w. words k w (m == k) refl;
-  count = grind (arith, nat_tests, many_without cs g tidy);
+  count = grind (arith, nat_tests, many_without cs g no_duplicates);
   limit = ch.limit ∙ h.limit;
 }
   where
     none : (k : ℕ) → (m == k) ≡ true → named (without g cs) (message_name k) ≡ None
-    none k e = ap (λ i. named (without g cs) i) (ap message_name (sym (eqb-true m k e)) ∙ sym name) ∙ unnamed cs g o tidy holds
+    none k e = ap (λ i. named (without g cs) i) (ap message_name (sym (eqb-true m k e)) ∙ sym name) ∙ unnamed cs g o no_duplicates holds
 
     gone : (k : ℕ) → (m == k) ≡ true → message_at new k ≡ None
     gone k e = ap (message_at new) (sym (eqb-true m k e)) ∙ ch.here
 
     still : (n : ℕ) → (o.name == n) ≡ false → named (without g cs) n ≡ named cs n
-    still n e = named_without cs g o n tidy holds e
+    still n e = named_without cs g o n no_duplicates holds e
 
     apart : (k : ℕ) → (m == k) ≡ false → (o.name == message_name k) ≡ false
     apart k e = grind (arith, nat_tests, ne_eqb, eq-eqb m k)
@@ -190,7 +190,7 @@ message_gone p old new cs g o m h tidy holds message name ch less = record {
 pub message_made : (p : Image) (old new : Store) (cs : List Cell) (c : Cell) (m : ℕ) (ws : List ℤ) →
     SameMessages p old cs → c.object ≡ record { name = message_name m; thing = Message } → ((w : ℕ) → word_of (Some ws) w ≡ at (pos 0) c.words w)
     → m < 1024 → Changes old new m (Some ws) → count new ≡ count old + 1 → SameMessages p new (c ∷ cs)
-message_made p old new cs c m ws h is told low ch more = record {
+message_made p old new cs c m ws h is reported low ch more = record {
   there = λ k. by k (m == k) refl;
   within = λ k high. other k (ne_eqb m k (λ same. absurd (omega (arith, same, high, low)))) ∙ h.within k high;
   past = grind (arith, nat_tests, ne_eqb);

@@ -15,7 +15,7 @@ use Rattle.aom_clients.specs.declared.entry.QueueEntry.TheVariants.{Close, Conne
 use Rattle.aom_clients.specs.declared.place.MessagePlace.{MessagePlace}
 use Rattle.aom_clients.specs.declared.place.MessagePlace.TheVariants.{Free, Queued}
 use Rattle.aom_image.specs.Image.{Image}
-use Rattle.aom_rules.specs.Typing.{Typing}
+use Rattle.aom_typing_rules.specs.Typing.{Typing}
 use Rattle.aom_machine_state.proofs.SafetyLemmas.{a_cell_of, cell_in, cell_lives, cell_name, cell_of, cell_owner, cell_placed, has_sender, held_cell, in_queue}
 use Rattle.aom_machine_state.proofs.SafetyLemmas.{leaving_only, named_cell, nobody, none_named, none_passes, object_in, open_server, queued_well, service_cell}
 use Rattle.aom_machine_state.proofs.SafetyLemmas.{service_in, waiting_well}
@@ -24,20 +24,20 @@ use Rattle.aom_semantics.specs.Clients.{client_at}
 use Rattle.aom_safety.specs.Kept.{ClientsFit, EntryFits, QueueFits, is_close_of, is_connect_of, is_message_of}
 use Rattle.aom_safety.specs.Laws.{IsWired}
 use Rattle.aom_semantics.specs.Places.{Asked, Cell, Close_of, Connect_of, Elsewhere, Message_of, Object, Place as Owner}
-use Rattle.aom_semantics.specs.Places.{Queued as Waits_at, Sender, Service, Tidy, held, named, same_place, service_of}
+use Rattle.aom_semantics.specs.Places.{Queued as Waits_at, Sender, Service, NoDuplicates, held, named, same_place, service_of}
 use Rattle.aom_semantics.specs.Servers.{has_message, is_among, is_from, is_message, is_queue}
 use Rattle.aom_semantics.specs.State.{State}
 use Rattle.aom_safety.specs.WellTyped.{WellTyped}
 use Rattle.aom_machine_state.proofs.Departing.{is_at}
 use Rattle.aom_machine_state.proofs.Serving.{taken_sent}
-use Rattle.aom_machine_state.proofs.Vanishing.{asks_message}
+use Rattle.aom_machine_state.proofs.Reclaiming.{asks_message}
 use Rattle.aom_machine_state.proofs.Withdrawing.{AllWait, owner_cell, owner_in, queue_owner}
 use Rattle.aom_machine_state.specs.Serving.{SameClients, holds, message_name, owner_of, sent_by, waits_in}
 
 -- ---- cells by their owners
 
-pub owner_held : (cs : List Cell) → Tidy cs → (q : Owner) (o : Object) → held cs q ≡ Some o → owner_of cs o.name ≡ Some q
-owner_held cs tidy q o e = grind (
+pub owner_held : (cs : List Cell) → NoDuplicates cs → (q : Owner) (o : Object) → held cs q ≡ Some o → owner_of cs o.name ≡ Some q
+owner_held cs no_duplicates q o e = grind (
   arith,
   nat_tests,
   a_cell_of (cell_in cs q) o,
@@ -50,8 +50,8 @@ owner_held cs tidy q o e = grind (
   cell_owner cs q,
 )
 
-pub held_owner : (cs : List Cell) → Tidy cs → (n : ℕ) (q : Owner) → owner_of cs n ≡ Some q → (x : Object) × (held cs q ≡ Some x) × (x.name ≡ n)
-held_owner cs tidy n q e = grind (arith, nat_tests, cell_of cs n, owner_cell cs n, owner_in, held_cell, object_in, cell_placed, cell_name)
+pub held_owner : (cs : List Cell) → NoDuplicates cs → (n : ℕ) (q : Owner) → owner_of cs n ≡ Some q → (x : Object) × (held cs q ≡ Some x) × (x.name ≡ n)
+held_owner cs no_duplicates n q e = grind (arith, nat_tests, cell_of cs n, owner_cell cs n, owner_in, held_cell, object_in, cell_placed, cell_name)
 
 -- ---- what is asked for, and by whom
 
@@ -123,17 +123,17 @@ module _ (p : Image) (t : Typing) (wired : IsWired p) (s : State) (w : WellTyped
   -- what waits has no queue and no sessions
   pub queue_empty : (n : ℕ) (x : Cell) → cell_of s.cells n ≡ Some x → is_queue x.owner ≡ true → (x.service.queue ≡ []) × (x.service.sessions ≡ [])
   queue_empty n x e h =
-      let lives : cell_of s.cells x.object.name ≡ Some x = cell_lives s.cells x.owner x w.good.tidy (cell_placed s.cells n x w.good.tidy e) in
+      let lives : cell_of s.cells x.object.name ≡ Some x = cell_lives s.cells x.owner x w.good.no_duplicates (cell_placed s.cells n x w.good.no_duplicates e) in
       let q = queue_owner x.owner h in
       let there : held s.cells (Elsewhere (Waits_at q.0 q.1)) ≡ Some x.object = ap (held s.cells) (sym q.2) ∙ held_cell s.cells x.owner
-      ∙ ap object_in (cell_placed s.cells n x w.good.tidy e) in
+      ∙ ap object_in (cell_placed s.cells n x w.good.no_duplicates e) in
       let none = fit.servers x.object (named_cell s.cells x.object.name ∙ ap object_in lives) (waiting_well p t wired s w q.0 q.1 x.object there) in
       let same : service_of s.cells x.object.name ≡ x.service = service_cell s.cells x.object.name ∙ ap service_in lives in
       (ap (λ (v : Service). v.queue) (sym same) ∙ none.0, ap (λ (v : Service). v.sessions) (sym same) ∙ none.1)
 
   -- of a number that is free nothing is asked for
   pub free_nowhere : (m : ℕ) → named s.cells m ≡ None → (n : ℕ) → has_message (service_of s.cells n) m ≡ false
-  free_nowhere m free n = none_named m (service_of s.cells n).queue (λ d. nobody p 0 (record s { clients = clients }) w.good.tidy fit n m free d)
+  free_nowhere m free n = none_named m (service_of s.cells n).queue (λ d. nobody p 0 (record s { clients = clients }) w.good.no_duplicates fit n m free d)
 
   -- nor of what is owned elsewhere
   pub owned_nowhere : (g : Owner) (o : Object) → held s.cells g ≡ Some o → is_queue g ≡ false → (n : ℕ) → has_message (service_of s.cells n) o.name ≡ false
@@ -150,7 +150,7 @@ module _ (p : Image) (t : Typing) (wired : IsWired p) (s : State) (w : WellTyped
         owner_of s.cells (message_name j) ≡ Some (Elsewhere (Waits_at n (message_name j)))
     owner_waiting n j h =
         let x = waiting_there n (message_name j) (asked_at n j h) in
-        ap (owner_of s.cells) (sym x.2) ∙ owner_held s.cells w.good.tidy (Elsewhere (Waits_at n (message_name j))) x.0 x.1
+        ap (owner_of s.cells) (sym x.2) ∙ owner_held s.cells w.good.no_duplicates (Elsewhere (Waits_at n (message_name j))) x.0 x.1
 
     pub messages_wait : (n : ℕ) → AllWait k.places (kept.queue_at k n)
     messages_wait n = waits_each k.places (kept.queue_at k n) (λ j h. same.waits j ∙ ap waits_in (owner_waiting n j h))
@@ -158,7 +158,7 @@ module _ (p : Image) (t : Typing) (wired : IsWired p) (s : State) (w : WellTyped
     -- and no other message is there
     pub waits_apart : (n m j : ℕ) → (m == j) ≡ false → (q : Owner) → owner_of s.cells (message_name j) ≡ Some q →
         same_place q (Elsewhere (Waits_at n (message_name m))) ≡ false
-    waits_apart n m j other q e = grind (arith, nat_tests, held_owner s.cells w.good.tidy, same_place-true q, eq-eqb m j)
+    waits_apart n m j other q e = grind (arith, nat_tests, held_owner s.cells w.good.no_duplicates, same_place-true q, eq-eqb m j)
 
     -- what waits is asked of the server with which its client has a session
     pub goes_there : (n j d : ℕ) → kept.place_at k j ≡ Queued d → is_among d (service_of s.cells n).sessions ≡ true →
@@ -176,7 +176,7 @@ module _ (p : Image) (t : Typing) (wired : IsWired p) (s : State) (w : WellTyped
             let o = queue_owner q h in
             let i = o.0 in
             let m = o.1 in
-            let x = held_owner s.cells w.good.tidy (message_name j) (Elsewhere (Waits_at i m)) (e ∙ ap (λ a. Some a) o.2) in
+            let x = held_owner s.cells w.good.no_duplicates (message_name j) (Elsewhere (Waits_at i m)) (e ∙ ap (λ a. Some a) o.2) in
             let a = asked_there i m x.0 x.1 in
             let here : has_message (service_of s.cells i) (message_name j) ≡ true = ap (has_message (service_of s.cells i)) (sym x.2 ∙ a.0) ∙ a.1 in
             let c = asking (message_name j) (service_of s.cells i).queue here in

@@ -6,25 +6,25 @@ use Rattle.std.proofs.Common.{refl, subst, suc, sym, true, ℕ, ℤ, ◌+◌, �
 use Rattle.std.specs.Prelude.{is_some, option_map}
 use Rattle.std.proofs.lemmas.Bool.{eq-eqb, eqb-true, false≢true, ne_eqb}
 use Rattle.std.proofs.lemmas.Option.{same_Some}
-use Rattle.aom_machine_state.proofs.ActiveLemmas.{queued_same, standing_follows}
-use Rattle.aom_active.specs.Agrees.{Active, queued}
-use Rattle.aom_active.specs.Meanings.{Makes, asked_anew}
+use Rattle.aom_machine_state.proofs.ActiveObjectsLemmas.{queued_same, status_is_determined}
+use Rattle.aom_active_objects.specs.Agrees.{Active, queued}
+use Rattle.aom_active_objects.specs.Meanings.{Makes, asked_anew}
 use Rattle.aom_cells.specs.Heap.{Heap}
-use Rattle.aom_clients.specs.Clients.{State as Kept_state}
+use Rattle.aom_clients.specs.Clients.{ClientsState as Kept_state}
 use Rattle.aom_clients.specs.declared.client.Client.{Client}
 use Rattle.aom_image.specs.Image.{Image}
 use Rattle.aom_image.specs.declared.method.Thing.TheVariants.{Message}
 use Rattle.aom_roles.specs.Things.{is_object}
 use Rattle.aom_cells.specs.Store.{Changes, Store, count}
 use Rattle.aom_clients.specs.Lists.{Table}
-use Rattle.aom_rules.specs.Typing.{Typing}
+use Rattle.aom_typing_rules.specs.Typing.{Typing}
 use Rattle.aom_cells.specs.Sessions.{Standing}
 use Rattle.aom_machine_state.proofs.SafetyLemmas.{living_waits, message_plain, redeemed_alike, redeeming, redeems_none, redeems_one, requested_redeemed}
 use Rattle.aom_machine_state.proofs.SafetyLemmas.{service_unnamed, service_without, void_waits_none}
 use Rattle.aom_machine_state.proofs.SemanticsLemmas.{count_kept, held_lives, read_kept, sessions, unnamed}
 use Rattle.aom_semantics.specs.Clients.{count_messages}
 use Rattle.aom_semantics.specs.Requests.{on_request}
-use Rattle.aom_safety.specs.Kept.{IsKept}
+use Rattle.aom_safety.specs.Kept.{StateInvariant}
 use Rattle.aom_semantics.specs.Places.{Cell, Object, Place, Request, Service, Token, held, named, requested, service_of, unserved, without, word_field}
 use Rattle.aom_semantics.specs.Servers.{is_queue}
 use Rattle.aom_semantics.specs.State.{State}
@@ -40,18 +40,18 @@ use Rattle.aom_machine_state.proofs.Completing.{owner_unnamed, owner_without}
 use Rattle.aom_machine_state.proofs.Listing.{listed_alike}
 use Rattle.aom_machine_state.proofs.Messages.{message_gone, messages_as}
 use Rattle.aom_machine_state.proofs.Premises.{owner_held}
-use Rattle.aom_machine_state.proofs.Replying.{beside_completed, cells_completed, message_unasked, natives_completed, requests_completed, told_no_sender}
+use Rattle.aom_machine_state.proofs.Replying.{beside_completed, cells_completed, message_unasked, natives_completed, requests_completed, reported_no_sender}
 use Rattle.aom_machine_state.proofs.Serving.{names_apart}
 use Rattle.aom_machine_state.proofs.Sessions.{natives_as}
-use Rattle.aom_machine_state.proofs.Unslotted.{words_at}
-use Rattle.aom_machine_state.proofs.Still.{Still, same_still, same_untold, still_each, untold}
+use Rattle.aom_machine_state.proofs.SlotReleased.{words_at}
+use Rattle.aom_machine_state.proofs.Still.{Still, same_still, same_unreported, still_each, unreported}
 use Rattle.aom_machine_state.proofs.Tokens.{tokens_redeemed}
 use Rattle.aom_machine_state.specs.Agrees.{SameCells, SameNatives, SameRequests, thing_of}
 use Rattle.aom_machine_state.specs.Listing.{SameListed}
 use Rattle.aom_machine_state.specs.Messages.{SameMessages, is_a_message}
 use Rattle.aom_machine_state.specs.Services.{SameServices}
 use Rattle.aom_machine_state.specs.Serving.{SameClients, message_name, owner_of, waits_in}
-use Rattle.aom_machine_state.specs.Tokens.{LetsGo, Redeems, SameTokens, class_in, told_at}
+use Rattle.aom_machine_state.specs.Tokens.{ClosesSession, Redeems, SameTokens, class_in, reported_at}
 
 -- ---- requests change, and nothing else
 
@@ -103,7 +103,7 @@ module _ (k : ℕ) (code : ℤ) where
     requests_one : (a b : Active) (n : ℕ) (r : Request) → requested cs n ≡ Some r → ((x : ℕ) → redeemed_request k code (requested cs x)
         ≡ cond (x == n) (Some (redeemed_with code r)) (requested cs x)) → Makes a b n (redeemed_with code) → SameRequests p a cs → SameRequests p b (after cs)
     requests_one a b n r there one makes same = record {
-      stands = standing_follows b (asked_anew n (Some (redeemed_with code r)) (requested cs)) (requested (after cs)) (queued p cs) (queued p (after cs)) asks
+      stands = status_is_determined b (asked_anew n (Some (redeemed_with code r)) (requested cs)) (requested (after cs)) (queued p cs) (queued p (after cs)) asks
           (λ x some. sym (queues_so x)) (makes.stands (requested cs) (queued p cs) r same.stands there);
       limit = makes.limit ∙ same.limit;
     }
@@ -122,9 +122,9 @@ module _ (k : ℕ) (code : ℤ) where
 
 -- ---- what waits for the token at a place
 
-token_told : (t : Option Token) → is_some (class_in t) ≡ true → (k : ℕ) × (order_in t ≡ Some k)
-token_told None e = absurd (false≢true e)
-token_told (Some t) e = (t.order, refl)
+token_reported : (t : Option Token) → is_some (class_in t) ≡ true → (k : ℕ) × (order_in t ≡ Some k)
+token_reported None e = absurd (false≢true e)
+token_reported (Some t) e = (t.order, refl)
 
 object_there : (t : Option Machine_token) → is_some (class_kept t) ≡ true → (n : ℕ) × (object_kept t ≡ Some n)
 object_there None e = absurd (false≢true e)
@@ -132,14 +132,14 @@ object_there (Some t) e = (t.object, refl)
 
 module _ (p : Image) (w : Kept) (cs : List Cell) (same : SameTokens p w cs) (place : ℕ) (there : is_some (class_at w place) ≡ true) where
   -- it has an order, and an object
-  pub its_order : (k : ℕ) × (told_at cs place ≡ Some k)
-  its_order = token_told (service_of cs (message_name place)).token (ap is_some (sym (same.classes place)) ∙ there)
+  pub its_order : (k : ℕ) × (reported_at cs place ≡ Some k)
+  its_order = token_reported (service_of cs (message_name place)).token (ap is_some (sym (same.classes place)) ∙ there)
 
   pub its_object : (n : ℕ) × (object_at w place ≡ Some n)
   its_object = object_there (token_at w place) there
 
-  abbrev waits_for_it : (n k : ℕ) → awaited (requested cs n) ≡ Some k → (m : ℕ) × (live_at w n ≡ Some m) × (told_at cs m ≡ Some k) × (object_at w m ≡ Some n)
-  waits_for_it n k e = let x = same.waits n k e in (x.place, x.lives, x.told, x.object)
+  abbrev waits_for_it : (n k : ℕ) → awaited (requested cs n) ≡ Some k → (m : ℕ) × (live_at w n ≡ Some m) × (reported_at cs m ≡ Some k) × (object_at w m ≡ Some n)
+  waits_for_it n k e = let x = same.waits n k e in (x.place, x.lives, x.reported, x.object)
 
   -- the object that it completes is the one whose token it is
   answers : (n : ℕ) → kept.redeemed w place ≡ Some n → (object_at w place ≡ Some n) × (live_at w n ≡ Some place)
@@ -149,34 +149,34 @@ module _ (p : Image) (w : Kept) (cs : List Cell) (same : SameTokens p w cs) (pla
   silent : kept.redeemed w place ≡ None → live_at w its_object.0 ≡ Some place → ⊥
   silent e lives = grind (arith, nat_tests, eq-eqb place place)
 
-  module _ (apart : TokensApart cs) (k : ℕ) (told : told_at cs place ≡ Some k) where
+  module _ (apart : TokensApart cs) (k : ℕ) (reported : reported_at cs place ≡ Some k) where
     pub waits_here : (n : ℕ) → kept.redeemed w place ≡ Some n → awaited (requested cs n) ≡ Some k
     waits_here n e =
         let a = answers n e in
         let some = waiting n (awaited (requested cs n)) (same.lives n place a.1) in
-        living_waits cs apart (live_at w) (object_at w) waits_for_it place n k told a.1 some.0 some.1
+        living_waits cs apart (live_at w) (object_at w) waits_for_it place n k reported a.1 some.0 some.1
       where
         waiting : (n : ℕ) (o : Option ℕ) → is_some o ≡ true → (j : ℕ) × (o ≡ Some j)
         waiting n None e = absurd (false≢true e)
         waiting n (Some j) e = (j, refl)
 
     pub waits_nowhere : kept.redeemed w place ≡ None → (x : ℕ) → awaited (requested cs x) ≡ Some k → ⊥
-    waits_nowhere e x waits = void_waits_none cs apart (live_at w) (object_at w) waits_for_it place its_object.0 k told its_object.1 (silent e) x waits
+    waits_nowhere e x waits = void_waits_none cs apart (live_at w) (object_at w) waits_for_it place its_object.0 k reported its_object.1 (silent e) x waits
 
 -- ---- the token goes
 
 module _ (p : Image) (t : Typing) (s : State) (w : WellTyped p t s) (g : Place) (o : Object) (there : held s.cells g ≡ Some o) (message : o.thing ≡ Message)
-    (place : ℕ) (name : o.name ≡ message_name place) (kept_so : IsKept p s) (apart : is_queue g ≡ false) (tokens : Kept) (same : SameTokens p tokens s.cells)
-    (told : is_some (class_at tokens place) ≡ true) (code : ℤ) where
+    (place : ℕ) (name : o.name ≡ message_name place) (kept_so : StateInvariant p s) (apart : is_queue g ≡ false) (tokens : Kept) (same : SameTokens p tokens s.cells)
+    (reported : is_some (class_at tokens place) ≡ true) (code : ℤ) where
   abbrev order : ℕ
-  order = (its_order p tokens s.cells same place told).0
+  order = (its_order p tokens s.cells same place reported).0
 
-  told_order : told_at s.cells place ≡ Some order
-  told_order = (its_order p tokens s.cells same place told).1
+  reported_order : reported_at s.cells place ≡ Some order
+  reported_order = (its_order p tokens s.cells same place reported).1
 
   -- its order, by its name
   pub its_token : order_in (service_of s.cells o.name).token ≡ Some order
-  its_token = ap (λ n. order_in (service_of s.cells n).token) name ∙ told_order
+  its_token = ap (λ n. order_in (service_of s.cells n).token) name ∙ reported_order
 
   abbrev pub redeemed_left : List Cell
   redeemed_left = without g (all_redeemed order code s.cells)
@@ -208,9 +208,9 @@ module _ (p : Image) (t : Typing) (s : State) (w : WellTyped p t s) (g : Place) 
       go : (x : Option ℕ) → kept.redeemed tokens place ≡ x → Redeems x code a b → SameRequests p a first → SameRequests p b (all_redeemed order code first)
       go None e is h = subst (λ c. SameRequests p c (all_redeemed order code first)) (sym is)
           (requests_none order code p first a (λ x. ap (redeemed_request order code) (asked_first x)
-          ∙ redeems_none s.cells code order (waits_nowhere p tokens s.cells same place told kept_so.tokens order told_order e) x ∙ sym (asked_first x)) h)
+          ∙ redeems_none s.cells code order (waits_nowhere p tokens s.cells same place reported kept_so.tokens order reported_order e) x ∙ sym (asked_first x)) h)
       go (Some n) e makes h =
-          let waits = waits_here p tokens s.cells same place told kept_so.tokens order told_order n e in
+          let waits = waits_here p tokens s.cells same place reported kept_so.tokens order reported_order n e in
           let r = request_there (requested s.cells n) waits in
           requests_one order code p first a b n r.0 (asked_first n ∙ r.1) (λ x. ap (redeemed_request order code) (asked_first x)
           ∙ redeems_one s.cells kept_so.tokens code n order waits x ∙ ap (λ q. cond (x == n) (on_request (redeemed_with code) q) (requested s.cells x)) r.1
@@ -218,69 +218,69 @@ module _ (p : Image) (t : Typing) (s : State) (w : WellTyped p t s) (g : Place) 
 
   -- clients have nothing of it
   unsent : (service_of s.cells o.name).sender ≡ None
-  unsent = grind (arith, nat_tests, told_no_sender p t s w g o there message kept_so.fit.sources, its_token)
+  unsent = grind (arith, nat_tests, reported_no_sender p t s w g o there message kept_so.fit.sources, its_token)
 
-  nothing_else : untold (service_of s.cells o.name) ≡ unserved
-  nothing_else = grind (arith, nat_tests, held_lives s.cells g o w.good.tidy there, message_plain p o.thing message, untold, unsent)
+  nothing_else : unreported (service_of s.cells o.name) ≡ unserved
+  nothing_else = grind (arith, nat_tests, held_lives s.cells g o w.good.no_duplicates there, message_plain p o.thing message, unreported, unsent)
 
   clients_first : (k : Kept_state) (clients : List Client) → SameClients k s.cells clients → SameClients k first clients
-  clients_first k clients h = same_untold k s.cells first clients (λ n. services n (o.name == n) refl) (λ m. owners m (place == m) refl) h
+  clients_first k clients h = same_unreported k s.cells first clients (λ n. services n (o.name == n) refl) (λ m. owners m (place == m) refl) h
     where
       gone : named first o.name ≡ None
-      gone = unnamed s.cells g o w.good.tidy there
+      gone = unnamed s.cells g o w.good.no_duplicates there
 
-      services : (n : ℕ) (b : Bool) → (o.name == n) ≡ b → untold (service_of first n) ≡ untold (service_of s.cells n)
+      services : (n : ℕ) (b : Bool) → (o.name == n) ≡ b → unreported (service_of first n) ≡ unreported (service_of s.cells n)
       services n true e =
           let one = eqb-true o.name n e in
-          ap (λ i. untold (service_of first i)) (sym one) ∙ ap untold (service_unnamed first o.name gone) ∙ sym nothing_else
-          ∙ ap (λ i. untold (service_of s.cells i)) one
-      services n false e = ap untold (service_without s.cells g o n w.good.tidy there e)
+          ap (λ i. unreported (service_of first i)) (sym one) ∙ ap unreported (service_unnamed first o.name gone) ∙ sym nothing_else
+          ∙ ap (λ i. unreported (service_of s.cells i)) one
+      services n false e = ap unreported (service_without s.cells g o n w.good.no_duplicates there e)
 
       owners : (m : ℕ) (b : Bool) → (place == m) ≡ b → waits_in (owner_of first (message_name m)) ≡ waits_in (owner_of s.cells (message_name m))
       owners m true e =
           let one : message_name m ≡ o.name = ap message_name (sym (eqb-true place m e)) ∙ sym name in
           ap (λ i. waits_in (owner_of first i)) one ∙ ap waits_in (owner_unnamed first o.name gone)
-          ∙ sym apart ∙ sym (ap waits_in (owner_held s.cells w.good.tidy g o there)) ∙ ap (λ i. waits_in (owner_of s.cells i)) (sym one)
-      owners m false e = ap waits_in (owner_without g o s.cells (message_name m) w.good.tidy there (ap (λ i. i == message_name m) name ∙ names_apart place m e))
+          ∙ sym apart ∙ sym (ap waits_in (owner_held s.cells w.good.no_duplicates g o there)) ∙ ap (λ i. waits_in (owner_of s.cells i)) (sym one)
+      owners m false e = ap waits_in (owner_without g o s.cells (message_name m) w.good.no_duplicates there (ap (λ i. i == message_name m) name ∙ names_apart place m e))
 
-  tokens_answered : (now : Kept) → Sets tokens.places now.places place None → LetsGo (kept.redeemed tokens place) tokens now → SameTokens p now redeemed_left
+  tokens_answered : (now : Kept) → Sets tokens.places now.places place None → ClosesSession (kept.redeemed tokens place) tokens now → SameTokens p now redeemed_left
   tokens_answered now freed lets = go (kept.redeemed tokens place) refl lets
     where
       n : ℕ
-      n = (its_object p tokens s.cells same place told).0
+      n = (its_object p tokens s.cells same place reported).0
 
       object : object_at tokens place ≡ Some n
-      object = (its_object p tokens s.cells same place told).1
+      object = (its_object p tokens s.cells same place reported).1
 
       unasked : requested s.cells (message_name place) ≡ None
       unasked = ap (requested s.cells) (sym name) ∙ message_unasked p t s w g o there message
 
       done : length now.living ≡ length tokens.living → (live_at tokens n ≡ Some place → live_at now n ≡ None) → ((live_at tokens n ≡ Some place → ⊥) →
           live_at now n ≡ live_at tokens n) → ((x : ℕ) → (n == x) ≡ false → live_at now x ≡ live_at tokens x) → SameTokens p now redeemed_left
-      done size goes stays others = tokens_redeemed p tokens now s.cells same kept_so.tokens w.good.tidy place n order code g o there name unasked told_order
+      done size goes stays others = tokens_redeemed p tokens now s.cells same kept_so.tokens w.good.no_duplicates place n order code g o there name unasked reported_order
           object freed size goes stays others
 
       other_than : (x : ℕ) → (n == x) ≡ false → x ≡ n → ⊥
       other_than x e is = false≢true (sym e ∙ eq-eqb n x (sym is))
 
-      go : (x : Option ℕ) → kept.redeemed tokens place ≡ x → LetsGo x tokens now → SameTokens p now redeemed_left
-      go None e is = done (ap length is) (λ lives. absurd (silent p tokens s.cells same place told e lives))
+      go : (x : Option ℕ) → kept.redeemed tokens place ≡ x → ClosesSession x tokens now → SameTokens p now redeemed_left
+      go None e is = done (ap length is) (λ lives. absurd (silent p tokens s.cells same place reported e lives))
           (λ void. ap (λ ls. live_at (record now { living = ls }) n) is) (λ x other. ap (λ ls. live_at (record now { living = ls }) x) is)
       go (Some i) e sets =
-          let a = answers p tokens s.cells same place told i e in
+          let a = answers p tokens s.cells same place reported i e in
           let one : i ≡ n = same_Some i n (sym a.0 ∙ object) in
           done sets.size (λ lives. ap (live_at now) (sym one) ∙ sets.here) (λ void. absurd (void (ap (live_at tokens) (sym one) ∙ a.1)))
           (λ x other. sets.others x (λ is. other_than x other (is ∙ one)))
 
   pub services_answered : (k : Kept_state) (store after : Store) (table : Table) (now : Kept) → Changes store after place None → count after + 1 ≡ count store →
-      Sets tokens.places now.places place None → LetsGo (kept.redeemed tokens place) tokens now → SameServices p k store tokens table s.cells s.clients →
+      Sets tokens.places now.places place None → ClosesSession (kept.redeemed tokens place) tokens now → SameServices p k store tokens table s.cells s.clients →
       SameServices p k after now table redeemed_left s.clients
   services_answered k store after table now gone fewer freed lets h = record {
     clients = swapped (λ cs. SameClients k cs s.clients)
         (same_still k first (all_redeemed order code first) s.clients (still_redeemed order code first) (clients_first k s.clients h.clients));
     sized = h.sized;
     messages = swapped (SameMessages p after) (messages_redeemed order code p first after
-        (message_gone p store after s.cells g o place h.messages w.good.tidy there (ap is_object message) name gone fewer));
+        (message_gone p store after s.cells g o place h.messages w.good.no_duplicates there (ap is_object message) name gone fewer));
     tokens = tokens_answered now freed lets;
     listed = swapped (SameListed p table)
         (listed_redeemed order code p first table (listed_beside p table s.cells first (beside_completed p t s w g o there message place name) h.listed));

@@ -3,8 +3,8 @@ use Rattle.std.proofs.lemmas.Bool.Decides.{nat_tests}
 use Rattle.std.proofs.Common.{arith, Bool, List, None, Option, Some, [], ap, cond, false, refl, suc, sym, true, ℕ, ℤ, ◌<◌, ◌==◌, ◌∙◌, ◌∷◌, ◌≡◌}
 use Rattle.std.specs.Prelude.{option_map}
 use Rattle.std.proofs.lemmas.Bool.{eqb-true}
-use Rattle.aom_machine_state.proofs.ActiveLemmas.{asked_new, asked_set}
-use Rattle.aom_clients.specs.Clients.{State as Kept_state}
+use Rattle.aom_machine_state.proofs.ActiveObjectsLemmas.{asked_new, asked_set}
+use Rattle.aom_clients.specs.Clients.{ClientsState as Kept_state}
 use Rattle.aom_clients.specs.declared.client.Client.{Client}
 use Rattle.aom_image.specs.Image.{Image}
 use Rattle.aom_image.specs.declared.method.Argument.{Argument}
@@ -13,13 +13,13 @@ use Rattle.aom_image.specs.declared.method.Thing.TheVariants.{Object as An_objec
 use Rattle.aom_cells.specs.Store.{Store}
 use Rattle.aom_clients.specs.Lists.{Table}
 use Rattle.aom_machine_state.proofs.SemanticsLemmas.{named_moved, requested_moved}
-use Rattle.aom_machine_state.proofs.SafetyLemmas.{named_set_word, requested_set_word, rerequested_alike, resessioned_alike, resessioned_requests}
+use Rattle.aom_machine_state.proofs.SafetyLemmas.{named_set_word, requested_set_word, request_updated_alike, session_updated_alike, session_updated_requests}
 use Rattle.aom_semantics.specs.Calls.{passed_cells}
-use Rattle.aom_semantics.specs.Requests.{ended_cells, own_request, rerequested}
-use Rattle.aom_semantics.specs.Natives.{resessioned}
+use Rattle.aom_semantics.specs.Requests.{ended_cells, own_request, request_updated}
+use Rattle.aom_semantics.specs.Natives.{session_updated}
 use Rattle.aom_semantics.specs.Places.{Cell, Object, Place, Register, Request, Service, moved, named, requested, set_request, set_word_field, with_new}
 use Rattle.aom_semantics.specs.Servers.{is_queue}
-use Rattle.aom_semantics.specs.State.{AtRoot, Frame, Home, Inside, State, Static, Task}
+use Rattle.aom_semantics.specs.State.{AtRoot, Frame, Receiver, Inside, State, Static, Task}
 use Rattle.aom_semantics.specs.Tokens.{awaited}
 use Rattle.aom_semantics.specs.Words.{stored}
 use Rattle.aom_cells.specs.Tokens.{Kept}
@@ -73,8 +73,8 @@ module _ (p : Image) {s : Kept_state} {store : Store} {tokens : Kept} {table : T
       (listed_alike p table cs (set_word_field n w v cs) (named_set_word cs n w v) (λ m. ap (option_map (λ x. x.order)) (requested_set_word cs n w v m)))
       (λ m. ap awaited (requested_set_word cs n w v m))
 
-  pub services_stored : (cs : List Cell) (home : Home) (w : ℕ) (v : ℤ) → ((o : Object) (from : Place) → home ≡ Inside o from → o.name < 4096) →
-      Serves p s store tokens table at cs → Serves p s store tokens table at (stored cs home w v)
+  pub services_stored : (cs : List Cell) (receiver : Receiver) (w : ℕ) (v : ℤ) → ((o : Object) (from : Place) → receiver ≡ Inside o from → o.name < 4096) →
+      Serves p s store tokens table at cs → Serves p s store tokens table at (stored cs receiver w v)
   services_stored cs x w v small same = grind (arith, nat_tests, services_written cs)
 
   -- a request, where it is there before and after, in the same order, and tokens go on
@@ -83,7 +83,7 @@ module _ (p : Image) {s : Kept_state} {store : Store} {tokens : Kept} {table : T
       (now : Kept) → SameTokens p now (set_request o.name r cs) → Serves p s store tokens table at cs → Serves p s store now table at (set_request o.name r cs)
   services_asked_with cs o r lives order now go_on = services_with cs
       (set_request o.name r cs) (still_requested cs o.name r) (messages_asked p store cs o.name r) (listed_alike p table cs (set_request o.name r cs)
-      (λ n. (rerequested_alike cs (Inside o (Register 0 0)) r).named_so n) (λ n. read_asked (option_map (λ x. x.order)) cs o r lives order n)) now go_on
+      (λ n. (request_updated_alike cs (Inside o (Register 0 0)) r).named_so n) (λ n. read_asked (option_map (λ x. x.order)) cs o r lives order n)) now go_on
 
   -- so where it waits for the same one
   pub services_asked : (cs : List Cell) (o : Object) (r : Option Request) →
@@ -93,29 +93,29 @@ module _ (p : Image) {s : Kept_state} {store : Store} {tokens : Kept} {table : T
       read_asked awaited cs o r lives token n) (λ m. ap (λ (v : Service). v.token) ((still_requested cs o.name r).services (message_name m))) same.tokens) same
 
   -- of what a method works on, where tokens go on
-  pub services_rerequested_with :
-      (cs : List Cell) (home : Home) (r : Option Request) → ((o : Object) (from : Place) → home ≡ Inside o from → named cs o.name ≡ Some o) →
-      option_map (λ x. x.order) r ≡ option_map (λ x. x.order) (own_request cs home) → (now : Kept) → SameTokens p now (rerequested cs home r) →
-      Serves p s store tokens table at cs → Serves p s store now table at (rerequested cs home r)
-  services_rerequested_with cs (Inside o from) r lives order now go_on same = services_asked_with cs o r (lives o from refl) order now go_on same
-  services_rerequested_with cs _ r lives order now go_on same = services_with cs cs (still_itself cs) (λ x. x) (λ x. x) now go_on same
+  pub services_request_updated_with :
+      (cs : List Cell) (receiver : Receiver) (r : Option Request) → ((o : Object) (from : Place) → receiver ≡ Inside o from → named cs o.name ≡ Some o) →
+      option_map (λ x. x.order) r ≡ option_map (λ x. x.order) (own_request cs receiver) → (now : Kept) → SameTokens p now (request_updated cs receiver r) →
+      Serves p s store tokens table at cs → Serves p s store now table at (request_updated cs receiver r)
+  services_request_updated_with cs (Inside o from) r lives order now go_on same = services_asked_with cs o r (lives o from refl) order now go_on same
+  services_request_updated_with cs _ r lives order now go_on same = services_with cs cs (still_itself cs) (λ x. x) (λ x. x) now go_on same
 
   -- and where it waits for the same one
-  pub services_rerequested :
-      (cs : List Cell) (home : Home) (r : Option Request) → ((o : Object) (from : Place) → home ≡ Inside o from → named cs o.name ≡ Some o) →
-      option_map (λ x. x.order) r ≡ option_map (λ x. x.order) (own_request cs home) → awaited r ≡ awaited (own_request cs home) →
-      Serves p s store tokens table at cs → Serves p s store tokens table at (rerequested cs home r)
-  services_rerequested cs (Inside o from) r lives order token same = services_asked cs o r (lives o from refl) order token same
-  services_rerequested cs _ r lives order token same = same
+  pub services_request_updated :
+      (cs : List Cell) (receiver : Receiver) (r : Option Request) → ((o : Object) (from : Place) → receiver ≡ Inside o from → named cs o.name ≡ Some o) →
+      option_map (λ x. x.order) r ≡ option_map (λ x. x.order) (own_request cs receiver) → awaited r ≡ awaited (own_request cs receiver) →
+      Serves p s store tokens table at cs → Serves p s store tokens table at (request_updated cs receiver r)
+  services_request_updated cs (Inside o from) r lives order token same = services_asked cs o r (lives o from refl) order token same
+  services_request_updated cs _ r lives order token same = same
 
   -- a session with a native
-  pub services_resessioned : (cs : List Cell) (home : Home) (b : Bool) → Serves p s store tokens table at cs →
-      Serves p s store tokens table at (resessioned cs home b)
-  services_resessioned cs Static b same = same
-  services_resessioned cs AtRoot b same = same
-  services_resessioned cs (Inside o from) b same = services_still cs (resessioned cs (Inside o from) b) (still_sessioned cs o.name b) (messages_opened
-      p store cs o.name b) (listed_alike p table cs (resessioned cs (Inside o from) b) (λ n. (resessioned_alike cs (Inside o from) b).named_so n)
-      (λ n. ap (option_map (λ x. x.order)) (resessioned_requests cs (Inside o from) b n))) (λ n. ap awaited (resessioned_requests cs (Inside o from) b n)) same
+  pub services_session_updated : (cs : List Cell) (receiver : Receiver) (b : Bool) → Serves p s store tokens table at cs →
+      Serves p s store tokens table at (session_updated cs receiver b)
+  services_session_updated cs Static b same = same
+  services_session_updated cs AtRoot b same = same
+  services_session_updated cs (Inside o from) b same = services_still cs (session_updated cs (Inside o from) b) (still_sessioned cs o.name b) (messages_opened
+      p store cs o.name b) (listed_alike p table cs (session_updated cs (Inside o from) b) (λ n. (session_updated_alike cs (Inside o from) b).named_so n)
+      (λ n. ap (option_map (λ x. x.order)) (session_updated_requests cs (Inside o from) b n))) (λ n. ap awaited (session_updated_requests cs (Inside o from) b n)) same
 
   -- a new cell
   pub services_made : (cs : List Cell) (n class : ℕ) (words : List ℤ) (owner : Place) →
@@ -140,9 +140,9 @@ module _ (p : Image) {s : Kept_state} {store : Store} {tokens : Kept} {table : T
 
   module _ (fr : Frame) where
     -- a cancel that may be over
-    pub services_ended : (cs : List Cell) → ((o : Object) (from : Place) → fr.home ≡ Inside o from → named cs o.name ≡ Some o) →
+    pub services_ended : (cs : List Cell) → ((o : Object) (from : Place) → fr.receiver ≡ Inside o from → named cs o.name ≡ Some o) →
         Serves p s store tokens table at cs → Serves p s store tokens table at (ended_cells p fr cs)
-    services_ended cs lives same = grind (arith, nat_tests, services_rerequested cs fr.home)
+    services_ended cs lives same = grind (arith, nat_tests, services_request_updated cs fr.receiver)
 
     -- arguments that are passed
     pub services_passed : (ts : List Task) (t : State) (depth : ℕ) (xs : List Argument) (first to : ℕ) (cs : List Cell) →

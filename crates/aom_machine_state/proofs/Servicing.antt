@@ -16,23 +16,23 @@ use Rattle.aom_clients.specs.declared.entry.QueueEntry.TheVariants.{Message}
 use Rattle.aom_clients.specs.declared.place.MessagePlace.{MessagePlace}
 use Rattle.aom_clients.specs.declared.place.MessagePlace.TheVariants.{Queued}
 use Rattle.aom_image.specs.Image.{Image}
-use Rattle.aom_rules.specs.Typing.{Typing}
+use Rattle.aom_typing_rules.specs.Typing.{Typing}
 use Rattle.aom_machine_state.proofs.SemanticsLemmas.{held_lives}
 use Rattle.aom_machine_state.proofs.SafetyLemmas.{service_moved}
-use Rattle.aom_semantics.specs.Clients.{at_parting, client_at, each_unslotted, queue_ended, sessions_ended, with_client}
+use Rattle.aom_semantics.specs.Clients.{at_parting, client_at, each_slot_released, queue_ended, sessions_ended, with_client}
 use Rattle.aom_safety.specs.Kept.{ClientsFit, StageKept}
 use Rattle.aom_safety.specs.Laws.{IsWired}
 use Rattle.aom_semantics.specs.Places.{Cell, Elsewhere, In_service, Object, Place as Owner, Queued as Waits_at, Service}
 use Rattle.aom_semantics.specs.Places.{held, moved, named, same_place, service_of, set_service, without}
 use Rattle.aom_semantics.specs.Servers.{is_message, is_queue, is_server, parted, reserved, taken_first, without_queue}
-use Rattle.aom_semantics.specs.State.{Accepts, Parts, Seat, State}
+use Rattle.aom_semantics.specs.State.{Accepts, Disconnects, OwnedObject, State}
 use Rattle.aom_safety.specs.WellTyped.{WellTyped}
 use Rattle.aom_machine_state.proofs.Completing.{same_completed}
 use Rattle.aom_machine_state.proofs.Departing.{at_set_or, is_at}
 use Rattle.aom_machine_state.proofs.Premises.{asked_there, closes_nowhere, connecting_below, connects_nowhere, goes_there, leaving_below, messages_wait}
 use Rattle.aom_machine_state.proofs.Premises.{owned_nowhere, owner_waiting, queue_empty, session_alone, waiting_there, waits_apart}
 use Rattle.aom_machine_state.proofs.Serving.{listed_as, same_parted, same_served, same_taken, same_unopened}
-use Rattle.aom_machine_state.proofs.Vanishing.{same_vanished}
+use Rattle.aom_machine_state.proofs.Reclaiming.{same_reclaimed}
 use Rattle.aom_machine_state.proofs.Withdrawing.{AllWait}
 use Rattle.aom_machine_state.specs.Serving.{AreSized, SameClients, message_name, sessionless}
 
@@ -74,7 +74,7 @@ reserved_moved f cs a b n = ap (λ v. set_service n (f v) (moved a b cs)) (servi
 module _ (p : Image) (t : Typing) (wired : IsWired p) (s : State) (w : WellTyped p t s)
     (fit : ClientsFit p s.clients s.cells) (k : kept.State) (same : SameClients k s.cells s.clients) (cells : ℕ) (sized : AreSized cells k) where
   -- `accept` gave a session
-  module _ (x : Seat) (c : ℕ) (lives : named s.cells x.object.name ≡ Some x.object) (below : x.object.name < cells)
+  module _ (x : OwnedObject) (c : ℕ) (lives : named s.cells x.object.name ≡ Some x.object) (below : x.object.name < cells)
       (kept_so : StageKept p s.clients s.cells x.object c Accepts) where
     session_room : x.object.name < length k.sessions
     session_room = subst (λ n. x.object.name < n) (sym sized.sessions) below
@@ -92,7 +92,7 @@ module _ (p : Image) (t : Typing) (wired : IsWired p) (s : State) (w : WellTyped
     )
 
   -- a close is served
-  module _ (x : Seat) (c : ℕ) (lives : named s.cells x.object.name ≡ Some x.object) (kept_so : StageKept p s.clients s.cells x.object c Parts) where
+  module _ (x : OwnedObject) (c : ℕ) (lives : named s.cells x.object.name ≡ Some x.object) (kept_so : StageKept p s.clients s.cells x.object c Disconnects) where
     parting_as : (next : Client) → sessionless next ≡ next →
         SameClients (kept.parted c next k) (reserved (parted c) x.object.name s.cells) (with_client c next s.clients)
     parting_as next plain = same_parted k s.cells s.clients same x.object lives c (leaving_below s.cells s.clients k same c x.object.name kept_so.0) next plain
@@ -104,16 +104,16 @@ module _ (p : Image) (t : Typing) (wired : IsWired p) (s : State) (w : WellTyped
   -- a message is completed that was taken
   pub same_replied : (g : Owner) (o : Object) (m : ℕ) → held s.cells g ≡ Some o → is_queue g ≡ false →
       is_server p o.thing ≡ false → o.name ≡ message_name m → m < 1024 → SameClients (kept.after_complete m k) (without g s.cells) s.clients
-  same_replied g o m there apart plain name below = same_completed k s.cells s.clients same w.good.tidy m
+  same_replied g o m there apart plain name below = same_completed k s.cells s.clients same w.good.no_duplicates m
       (subst (λ n. m < n) (sym sized.places) below) g o there name (subst (λ n. ((service_of s.cells n).queue ≡ []) × ((service_of s.cells n).sessions ≡ []))
-      name (fit.servers o (held_lives s.cells g o w.good.tidy there) plain))
+      name (fit.servers o (held_lives s.cells g o w.good.no_duplicates there) plain))
       (λ n. subst (λ i. list_any (is_message i) (service_of s.cells n).queue ≡ false) name (owned_nowhere p t wired s w s.clients fit g o there apart n))
 
   -- a cell goes, a server with all that clients have at it
   pub same_gone : (g : Owner) (o : Object) → held s.cells g ≡ Some o → is_queue g ≡ false → o.name < 4096 → o.name < cells →
-      SameClients (kept.server_gone o.name k) (each_unslotted (service_of s.cells o.name).sessions (without g (without_queue o.name s.cells)))
+      SameClients (kept.server_gone o.name k) (each_slot_released (service_of s.cells o.name).sessions (without g (without_queue o.name s.cells)))
       (sessions_ended (service_of s.cells o.name).sessions (queue_ended (service_of s.cells o.name).queue s.clients))
-  same_gone g o there apart small below = same_vanished k s.cells s.clients same w.good.tidy o g there apart small
+  same_gone g o there apart small below = same_reclaimed k s.cells s.clients same w.good.no_duplicates o g there apart small
       (subst (λ n. o.name < n) (sym sized.queues) below) (subst (λ n. o.name < n) (sym sized.sessions) below) (queue_empty p t wired s w s.clients fit)
       (asked_there p t wired s w s.clients fit o.name) (waiting_there p t wired s w s.clients fit) (goes_there p t wired s w s.clients fit k same o.name)
 

@@ -18,7 +18,7 @@ use Rattle.aom_clients.specs.declared.place.MessagePlace.{MessagePlace}
 use Rattle.aom_clients.specs.declared.place.MessagePlace.TheVariants.{Free, Held, Queued}
 use Rattle.aom_clients.specs.Table.{held_place, is_out_of, is_queued, sender}
 use Rattle.aom_machine_state.proofs.SafetyLemmas.{by_server, named_served, service_moved, service_unnamed}
-use Rattle.aom_machine_state.proofs.SemanticsLemmas.{Reads, at-put_at, front_free, moving, read_kept, read_so, same_place_refl, serving}
+use Rattle.aom_machine_state.proofs.SemanticsLemmas.{Reads, at-set_extending, front_free, moving, read_kept, read_so, same_place_refl, serving}
 use Rattle.aom_semantics.specs.Clients.{at_opening, client_at, with_client}
 use Rattle.aom_safety.specs.Kept.{is_close_of, is_connect_of}
 use Rattle.aom_semantics.specs.Places.{Cell, Close_of, Connect_of, Elsewhere, In_service, Message_of, Object, Place as Owner, Queued as Waits_at}
@@ -45,7 +45,7 @@ front_false x b e = grind arith
 pub client_set : (xs clients : List Client) (c : ℕ) (to to' : Client) →
     c < length xs → sessionless to ≡ to' → ((d : ℕ) → sessionless (slice_index_or xs d Unconnected) ≡ client_at clients d) →
     (d : ℕ) → sessionless (slice_index_or (slice_set xs c to) d Unconnected) ≡ client_at (with_client c to' clients) d
-client_set xs clients c to to' small here others d = grind (arith, nat_tests, at_set Unconnected xs c d to small, at-put_at Unconnected clients c d to')
+client_set xs clients c to to' small here others d = grind (arith, nat_tests, at_set Unconnected xs c d to small, at-set_extending Unconnected clients c d to')
 
 -- each is there once, and one more
 once_last : (ms : List ℕ) (m : ℕ) → Once ms → is_among m ms ≡ false → Once (ms ++ m ∷ [])
@@ -88,12 +88,12 @@ module _ (cs : List Cell) (o : Object) (lives : named cs o.name ≡ Some o) (f :
   then = reserved f o.name cs
 
   -- lists by number, of which that of the server changes
-  pub listed_then : {A B : Type 0} (lists : List (List A)) (entries : List A) (told : List A → List B) (part : Service → List B) →
-      o.name < length lists → told entries ≡ part (f (service_of cs o.name)) → ((n : ℕ) → told (slice_index_or lists n []) ≡ part (service_of cs n)) → (n : ℕ) →
-      told (slice_index_or (slice_set lists o.name entries) n []) ≡ part (service_of then n)
-  listed_then lists entries told part small here others n = by_server cs o lives f (λ n v. told (slice_index_or (slice_set lists o.name entries) n []) ≡ part v)
-      (ap told (at_set [] lists o.name o.name entries small ∙ ap (λ b. cond b entries (slice_index_or lists o.name [])) (eq-eqb o.name o.name refl)) ∙ here)
-      (λ n other. ap told (at_set [] lists o.name n entries small ∙ ap (λ b. cond b entries (slice_index_or lists n [])) other) ∙ others n) n
+  pub listed_then : {A B : Type 0} (lists : List (List A)) (entries : List A) (reported : List A → List B) (part : Service → List B) →
+      o.name < length lists → reported entries ≡ part (f (service_of cs o.name)) → ((n : ℕ) → reported (slice_index_or lists n []) ≡ part (service_of cs n)) → (n : ℕ) →
+      reported (slice_index_or (slice_set lists o.name entries) n []) ≡ part (service_of then n)
+  listed_then lists entries reported part small here others n = by_server cs o lives f (λ n v. reported (slice_index_or (slice_set lists o.name entries) n []) ≡ part v)
+      (ap reported (at_set [] lists o.name o.name entries small ∙ ap (λ b. cond b entries (slice_index_or lists o.name [])) (eq-eqb o.name o.name refl)) ∙ here)
+      (λ n other. ap reported (at_set [] lists o.name n entries small ∙ ap (λ b. cond b entries (slice_index_or lists n [])) other) ∙ others n) n
 
   pub sender_then : ((v : Service) → (f v).sender ≡ v.sender) → (n : ℕ) → (service_of then n).sender ≡ (service_of cs n).sender
   sender_then sender n = by_server cs o lives f (λ n v. v.sender ≡ (service_of cs n).sender) (sender (service_of cs o.name)) (λ n other. refl) n
@@ -323,7 +323,7 @@ module _ (s : kept.State) (cs : List Cell) (clients : List Client) (same : SameC
       words = words;
       request = None;
       session = false;
-      service = record unserved { sender = Some (record { client = c; holds_slot = true; is_told = true }) };
+      service = record unserved { sender = Some (record { client = c; holds_slot = true; is_reported = true }) };
       owner = Elsewhere (Waits_at o.name (message_name m));
     }
 
@@ -340,12 +340,12 @@ module _ (s : kept.State) (cs : List Cell) (clients : List Client) (same : SameC
     sent_of d = at_set [] s.sent c d (kept.sent_at s c ++ m ∷ []) listed
 
     -- what is told of the place that is taken, and of all others
-    told_new : {A B : Type 0} (f : MessagePlace → A) (g : B → A) (j : ℕ) (x y : B) →
+    reported_new : {A B : Type 0} (f : MessagePlace → A) (g : B → A) (j : ℕ) (x y : B) →
         f (Queued c) ≡ g x → ((m == j) ≡ false → f (kept.place_at s j) ≡ g y) → f (kept.place_at sent j) ≡ g (cond (message_name m == message_name j) x y)
-    told_new f g j x y here others = grind (arith, nat_tests, places_at j, eq-eqb, eqb-true m j, names_apart m j)
+    reported_new f g j x y here others = grind (arith, nat_tests, places_at j, eq-eqb, eqb-true m j, names_apart m j)
 
     waits_then : (j : ℕ) → is_queued (kept.place_at sent j) ≡ waits_in (owner_of (message ∷ behind) (message_name j))
-    waits_then j = told_new is_queued waits_in j (Some message.owner) (owner_of behind (message_name j)) refl
+    waits_then j = reported_new is_queued waits_in j (Some message.owner) (owner_of behind (message_name j)) refl
         (λ e. same.waits j ∙ sym (ap waits_in (owner_served cs o.name (asked_last (Message_of c (message_name m)) (service_of cs o.name)) (message_name j))))
 
     senders_after : (j : ℕ) → sent_by (holds sent j) (kept.place_at sent j) ≡ (service_of (message ∷ behind) (message_name j)).sender
@@ -362,7 +362,7 @@ module _ (s : kept.State) (cs : List Cell) (clients : List Client) (same : SameC
 
         go : (b : Bool) → (m == j) ≡ b → sent_by (is_among j (kept.sent_at sent (sender (cond b (Queued c) (kept.place_at s j)))))
             (cond b (Queued c) (kept.place_at s j)) ≡ (cond (message_name m == message_name j) message.service (service_of behind (message_name j))).sender
-        go true e = ap (λ b. Some (record { client = c; holds_slot = b; is_told = true }))
+        go true e = ap (λ b. Some (record { client = c; holds_slot = b; is_reported = true }))
             (ap (λ l. is_among j l) (sent_of c ∙ ap (λ b. cond b (kept.sent_at s c ++ m ∷ []) (kept.sent_at s c)) (eq-eqb c c refl)) ∙ list_any-append
             (λ d. d == j) (kept.sent_at s c) (m ∷ []) ∙ ap (λ b. is_among j (kept.sent_at s c) || (b || false)) e ∙ or_true (is_among j (kept.sent_at s c)))
             ∙ sym (ap (λ b. (cond b message.service (service_of behind (message_name j))).sender)

@@ -82,7 +82,7 @@ module _ (cells : ℕ) (k : kept.State) (sized : AreSized cells k) where
       plain : AreSized cells (kept.with_client c to (kept.withdrawn c k))
       plain = sized_so (kept.with_client c to (kept.withdrawn c k)) places queues refl
 
-      go : (x : Client) → AreSized cells (kept.told x c (kept.with_client c to (kept.withdrawn c k)))
+      go : (x : Client) → AreSized cells (kept.reported x c (kept.with_client c to (kept.withdrawn c k)))
       go (Open n session slots) = sized_so (kept.queued n (Close c) (kept.with_client c to (kept.withdrawn c k))) places
           (length-set (kept.withdrawn c k).queues n (kept.queue_at (kept.withdrawn c k) n ++ Close c ∷ []) ∙ queues) refl
       go _ = plain

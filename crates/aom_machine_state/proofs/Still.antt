@@ -6,13 +6,13 @@ use Rattle.aom_clients.specs.Clients as kept
 use Rattle.aom_clients.specs.declared.client.Client.{Client}
 use Rattle.aom_image.specs.Image.{Image}
 use Rattle.aom_image.specs.declared.method.Thing.{Thing}
-use Rattle.aom_machine_state.proofs.SemanticsLemmas.{Alters, asking, bereaving, opening, read_kept, same_place-true, services, storing}
+use Rattle.aom_machine_state.proofs.SemanticsLemmas.{Alters, asking, detaching, opening, read_kept, same_place-true, services, storing}
 use Rattle.aom_machine_state.proofs.SafetyLemmas.{service_moved, service_unnamed}
-use Rattle.aom_semantics.specs.Natives.{all_bereaved, resessioned}
+use Rattle.aom_semantics.specs.Natives.{all_detached, session_updated}
 use Rattle.aom_semantics.specs.Places.{Cell, Place as Owner, Request, Service, moved, named, service_of}
 use Rattle.aom_semantics.specs.Places.{set_request, set_session, set_word_field, unserved, with_new}
 use Rattle.aom_semantics.specs.Servers.{holds_slot, is_queue}
-use Rattle.aom_semantics.specs.State.{Home}
+use Rattle.aom_semantics.specs.State.{Receiver}
 use Rattle.aom_machine_state.proofs.Serving.{moved_from, owner_moved, owners}
 use Rattle.aom_machine_state.specs.Serving.{SameClients, message_name, owner_of, waits_in}
 
@@ -22,17 +22,17 @@ pub record Still (cs cs' : List Cell) : Type 0 where
   pub owners : (m : ℕ) → waits_in (owner_of cs' (message_name m)) ≡ waits_in (owner_of cs (message_name m))
 
 -- what clients have at a cell, whether or not it is a token
-abbrev pub untold : Service → Service
-untold v = record v { token = None }
+abbrev pub unreported : Service → Service
+unreported v = record v { token = None }
 
 pub still_itself : (cs : List Cell) → Still cs cs
 still_itself cs = record { services = λ n. refl; owners = λ m. refl }
 
 -- which messages are tokens is no matter of clients
 module _ (s : kept.State) (cs cs' : List Cell) (clients : List Client) where
-  pub same_untold : ((n : ℕ) → untold (service_of cs' n) ≡ untold (service_of cs n)) →
+  pub same_unreported : ((n : ℕ) → unreported (service_of cs' n) ≡ unreported (service_of cs n)) →
       ((m : ℕ) → waits_in (owner_of cs' (message_name m)) ≡ waits_in (owner_of cs (message_name m))) → SameClients s cs clients → SameClients s cs' clients
-  same_untold services owners same = record {
+  same_unreported services owners same = record {
     at = same.at;
     queues = λ n. same.queues n ∙ ap (λ (v : Service). v.queue) (sym (services n));
     sessions = λ n. same.sessions n ∙ ap (λ (v : Service). v.sessions) (sym (services n));
@@ -47,7 +47,7 @@ module _ (s : kept.State) (cs cs' : List Cell) (clients : List Client) where
   }
 
   pub same_still : Still cs cs' → SameClients s cs clients → SameClients s cs' clients
-  same_still still same = same_untold (λ n. ap untold (still.services n)) still.owners same
+  same_still still same = same_unreported (λ n. ap unreported (still.services n)) still.owners same
 
 -- ---- a cell moves
 
@@ -94,9 +94,9 @@ pub still_written : (cs : List Cell) (n w : ℕ) (v : ℤ) → Still cs (set_wor
 still_written cs n w v = still_each (storing n w v) (λ c. refl) (λ c. refl) cs
 
 -- a native is killed
-pub still_bereaved : (p : Image) (native : ℕ) (cs : List Cell) → Still cs (all_bereaved p native cs)
-still_bereaved p native cs = still_each (bereaving p native) (λ c. refl) (λ c. refl) cs
+pub still_detached : (p : Image) (native : ℕ) (cs : List Cell) → Still cs (all_detached p native cs)
+still_detached p native cs = still_each (detaching p native) (λ c. refl) (λ c. refl) cs
 
 -- the session of what a method works on is another
-pub still_opened : (cs : List Cell) (home : Home) (is_open : Bool) → Still cs (resessioned cs home is_open)
+pub still_opened : (cs : List Cell) (receiver : Receiver) (is_open : Bool) → Still cs (session_updated cs receiver is_open)
 still_opened cs x is_open = grind (arith, nat_tests, still_itself cs, still_sessioned cs)

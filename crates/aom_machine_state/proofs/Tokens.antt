@@ -7,11 +7,11 @@ use Rattle.std.proofs.lemmas.Option.{none-some, same_Some}
 use Rattle.aom_image.specs.Image.{Image}
 use Rattle.aom_machine_state.proofs.Serving.{names_apart}
 use Rattle.aom_machine_state.specs.Serving.{message_name}
-use Rattle.aom_machine_state.specs.Tokens.{Living, SameTokens, class_in, class_told, told_at}
-use Rattle.aom_machine_state.proofs.SafetyLemmas.{awaited_redeemed, redeemed_alike, requested_redeemed, service_unnamed, service_without, told_as_before}
+use Rattle.aom_machine_state.specs.Tokens.{Living, SameTokens, class_in, class_reported, reported_at}
+use Rattle.aom_machine_state.proofs.SafetyLemmas.{awaited_redeemed, redeemed_alike, requested_redeemed, service_unnamed, service_without, reported_as_before}
 use Rattle.aom_machine_state.proofs.SafetyLemmas.{waits_for}
 use Rattle.aom_machine_state.proofs.SemanticsLemmas.{requested_unnamed, requested_without, unnamed}
-use Rattle.aom_semantics.specs.Places.{Cell, Object, Place, Service, Tidy, Token, held, named, requested, service_of, unserved, without}
+use Rattle.aom_semantics.specs.Places.{Cell, Object, Place, Service, NoDuplicates, Token, held, named, requested, service_of, unserved, without}
 use Rattle.aom_semantics.specs.Tokens.{TokensApart, all_redeemed, awaited, order_in, redeemed_request, with_token}
 use Rattle.aom_cells.specs.Tokens.{Kept, Sets, class_at, class_kept, live_at, object_at, object_kept}
 
@@ -29,11 +29,11 @@ waited x e = grind arith
 module _ (p : Image) (w : Kept) (cs us : List Cell) where
   pub tokens_still : ((n : ℕ) → awaited (requested us n) ≡ awaited (requested cs n)) →
       ((m : ℕ) → (service_of us (message_name m)).token ≡ (service_of cs (message_name m)).token) → SameTokens p w cs → SameTokens p w us
-  tokens_still asks tells same = record {
-    classes = λ m. same.classes m ∙ sym (ap class_in (tells m));
+  tokens_still asks reports same = record {
+    classes = λ m. same.classes m ∙ sym (ap class_in (reports m));
     waits = λ n k e.
         let x = same.waits n k (sym (asks n) ∙ e) in
-        record { place = x.place; lives = x.lives; told = ap order_in (tells x.place) ∙ x.told; object = x.object };
+        record { place = x.place; lives = x.lives; reported = ap order_in (reports x.place) ∙ x.reported; object = x.object };
     lives = λ n m e. ap is_some (asks n) ∙ same.lives n m e;
     places = same.places;
     cells = same.cells;
@@ -43,7 +43,7 @@ module _ (p : Image) (w : Kept) (cs us : List Cell) where
 
 module _ (p : Image) (w new : Kept) (cs us : List Cell) (same : SameTokens p w cs) (asker : ℕ)
     (others : (n : ℕ) → (asker == n) ≡ false → awaited (requested us n) ≡ awaited (requested cs n)) (over : awaited (requested us asker) ≡ None)
-    (tells : (m : ℕ) → (service_of us (message_name m)).token ≡ (service_of cs (message_name m)).token)
+    (reports : (m : ℕ) → (service_of us (message_name m)).token ≡ (service_of cs (message_name m)).token)
     (places : new.places ≡ w.places) (forgets : Sets w.living new.living asker None) where
   live_then : (n : ℕ) → (asker == n) ≡ false → live_at new n ≡ live_at w n
   live_then n other = forgets.others n (other_than asker n other)
@@ -56,7 +56,7 @@ module _ (p : Image) (w new : Kept) (cs us : List Cell) (same : SameTokens p w c
 
   pub tokens_forgotten : SameTokens p new us
   tokens_forgotten = record {
-    classes = λ m. class_then m ∙ same.classes m ∙ sym (ap class_in (tells m));
+    classes = λ m. class_then m ∙ same.classes m ∙ sym (ap class_in (reports m));
     waits = λ n k e. waiting n k e (asker == n) refl;
     lives = λ n m e. living n m e (asker == n) refl;
     places = ap length places ∙ same.places;
@@ -67,7 +67,7 @@ module _ (p : Image) (w new : Kept) (cs us : List Cell) (same : SameTokens p w c
       waiting n k e true is = absurd (none-some k (sym over ∙ ap (λ i. awaited (requested us i)) (eqb-true asker n is) ∙ e))
       waiting n k e false other =
           let x = same.waits n k (sym (others n other) ∙ e) in
-          record { place = x.place; lives = live_then n other ∙ x.lives; told = ap order_in (tells x.place) ∙ x.told; object = object_then x.place ∙ x.object }
+          record { place = x.place; lives = live_then n other ∙ x.lives; reported = ap order_in (reports x.place) ∙ x.reported; object = object_then x.place ∙ x.object }
 
       living : (n m : ℕ) → live_at new n ≡ Some m → (b : Bool) → (asker == n) ≡ b → is_some (awaited (requested us n)) ≡ true
       living n m e true is = absurd (none-some m (sym forgets.here ∙ ap (live_at new) (eqb-true asker n is) ∙ e))
@@ -76,7 +76,7 @@ module _ (p : Image) (w new : Kept) (cs us : List Cell) (same : SameTokens p w c
 -- ---- a token is handed out
 
 module _ (p : Image) (w new : Kept) (cs us : List Cell) (same : SameTokens p w cs) (m asker class order : ℕ) (owner : Place)
-    (tells : (n : ℕ) → (service_of us (message_name n)).token ≡ (service_of cs (message_name n)).token) (unused : named us (message_name m) ≡ None)
+    (reports : (n : ℕ) → (service_of us (message_name n)).token ≡ (service_of cs (message_name n)).token) (unused : named us (message_name m) ≡ None)
     (asks : awaited (requested us asker) ≡ Some order) (others : (n : ℕ) → (asker == n) ≡ false → awaited (requested us n) ≡ awaited (requested cs n))
     (hands : Sets w.places new.places m (Some (record { class = class; object = asker }))) (lives : Sets w.living new.living asker (Some m)) where
   abbrev token : Token
@@ -92,8 +92,8 @@ module _ (p : Image) (w new : Kept) (cs us : List Cell) (same : SameTokens p w c
   old_token : (x : ℕ) → (m == x) ≡ false → (service_of vs (message_name x)).token ≡ (service_of cs (message_name x)).token
   old_token x other = grind (arith, nat_tests, names_apart m x other)
 
-  no_token : told_at cs m ≡ None
-  no_token = sym (ap order_in (tells m)) ∙ ap (λ (v : Service). order_in v.token) (service_unnamed us (message_name m) unused)
+  no_token : reported_at cs m ≡ None
+  no_token = sym (ap order_in (reports m)) ∙ ap (λ (v : Service). order_in v.token) (service_unnamed us (message_name m) unused)
 
   waits_as_before : (n k : ℕ) → awaited (requested vs n) ≡ Some k → awaited (requested us n) ≡ Some k
   waits_as_before n k e = grind (arith, nat_tests)
@@ -108,16 +108,16 @@ module _ (p : Image) (w new : Kept) (cs us : List Cell) (same : SameTokens p w c
       record {
         place = m;
         lives = sym (ap (live_at new) (eqb-true asker n is)) ∙ lives.here;
-        told = ap order_in (own_token m (eq-eqb m m refl)) ∙ ap (λ i. Some i) one;
+        reported = ap order_in (own_token m (eq-eqb m m refl)) ∙ ap (λ i. Some i) one;
         object = ap object_kept hands.here ∙ ap (λ i. Some i) (eqb-true asker n is);
       }
   waiting n k e false other =
       let x = same.waits n k (sym (others n other) ∙ e) in
-      let apart : (m == x.place) ≡ false = ne_eqb m x.place (λ at. none-some k (sym no_token ∙ ap (told_at cs) at ∙ x.told)) in
+      let apart : (m == x.place) ≡ false = ne_eqb m x.place (λ at. none-some k (sym no_token ∙ ap (reported_at cs) at ∙ x.reported)) in
       record {
         place = x.place;
         lives = lives.others n (other_than asker n other) ∙ x.lives;
-        told = ap order_in (old_token x.place apart) ∙ x.told;
+        reported = ap order_in (old_token x.place apart) ∙ x.reported;
         object = ap object_kept (hands.others x.place (other_than m x.place apart)) ∙ x.object;
       }
 
@@ -125,7 +125,7 @@ module _ (p : Image) (w new : Kept) (cs us : List Cell) (same : SameTokens p w c
   living n x e true is = some_of _ order (ap (λ i. awaited (requested us i)) (sym (eqb-true asker n is)) ∙ asks)
   living n x e false other = ap is_some (others n other) ∙ same.lives n x (sym (lives.others n (other_than asker n other)) ∙ e)
 
-  class_now : (x : ℕ) (b : Bool) → (m == x) ≡ b → class_at new x ≡ class_told vs x
+  class_now : (x : ℕ) (b : Bool) → (m == x) ≡ b → class_at new x ≡ class_reported vs x
   class_now x true is = sym (ap (class_at new) (eqb-true m x is)) ∙ ap class_kept hands.here ∙ sym (ap class_in (own_token x is))
   class_now x false other = ap class_kept (hands.others x (other_than m x other)) ∙ same.classes x ∙ sym (ap class_in (old_token x other))
 
@@ -140,9 +140,9 @@ module _ (p : Image) (w new : Kept) (cs us : List Cell) (same : SameTokens p w c
 
 -- ---- a token is replied to
 
-module _ (p : Image) (w new : Kept) (cs : List Cell) (same : SameTokens p w cs) (apart : TokensApart cs) (tidy : Tidy cs) (m n k : ℕ) (code : ℤ)
+module _ (p : Image) (w new : Kept) (cs : List Cell) (same : SameTokens p w cs) (apart : TokensApart cs) (no_duplicates : NoDuplicates cs) (m n k : ℕ) (code : ℤ)
     (g : Place) (it : Object) (there : held cs g ≡ Some it) (name : it.name ≡ message_name m) (unasked : requested cs (message_name m) ≡ None)
-    (told : told_at cs m ≡ Some k) (object : object_at w m ≡ Some n) (freed : Sets w.places new.places m None) (size : length new.living ≡ length w.living)
+    (reported : reported_at cs m ≡ Some k) (object : object_at w m ≡ Some n) (freed : Sets w.places new.places m None) (size : length new.living ≡ length w.living)
     (goes : live_at w n ≡ Some m → live_at new n ≡ None) (stays : (live_at w n ≡ Some m → ⊥) → live_at new n ≡ live_at w n)
     (others : (x : ℕ) → (n == x) ≡ false → live_at new x ≡ live_at w x) where
   abbrev us : List Cell
@@ -154,13 +154,13 @@ module _ (p : Image) (w new : Kept) (cs : List Cell) (same : SameTokens p w cs) 
   held_then : held us g ≡ Some it
   held_then = (redeemed_alike k code cs).held_so g ∙ there
 
-  tidy_then : Tidy us
-  tidy_then = (redeemed_alike k code cs).tidy tidy
+  tidy_then : NoDuplicates us
+  tidy_then = (redeemed_alike k code cs).no_duplicates no_duplicates
 
   -- at another place all is as it was
   other_token : (x : ℕ) → (m == x) ≡ false → (service_of left (message_name x)).token ≡ (service_of cs (message_name x)).token
   other_token x other = ap (λ (v : Service). v.token) (service_without us g it (message_name x) tidy_then held_then
-      (ap (λ i. i == message_name x) name ∙ names_apart m x other) ∙ told_as_before k code cs (message_name x))
+      (ap (λ i. i == message_name x) name ∙ names_apart m x other) ∙ reported_as_before k code cs (message_name x))
 
   gone_token : (service_of left (message_name m)).token ≡ None
   gone_token = ap (λ (v : Service). v.token) (service_unnamed left (message_name m) (ap (named left) (sym name) ∙ unnamed us g it tidy_then held_then))
@@ -181,11 +181,11 @@ module _ (p : Image) (w new : Kept) (cs : List Cell) (same : SameTokens p w cs) 
       let was = before x j e in
       let old = same.waits x j was.0 in
       let other : (m == old.place) ≡ false =
-      ne_eqb m old.place (λ at. false≢true (sym was.1 ∙ eq-eqb k j (same_Some k j (sym told ∙ ap (told_at cs) at ∙ old.told)))) in
+      ne_eqb m old.place (λ at. false≢true (sym was.1 ∙ eq-eqb k j (same_Some k j (sym reported ∙ ap (reported_at cs) at ∙ old.reported)))) in
       record {
         place = old.place;
         lives = lives_on x old.place old.lives other (n == x) refl;
-        told = ap order_in (other_token old.place other) ∙ old.told;
+        reported = ap order_in (other_token old.place other) ∙ old.reported;
         object = ap object_kept (freed.others old.place (other_than m old.place other)) ∙ old.object;
       }
     where
@@ -214,7 +214,7 @@ module _ (p : Image) (w new : Kept) (cs : List Cell) (same : SameTokens p w cs) 
       no_wait : awaited (requested cs x) ≡ Some k → ⊥
       no_wait waits =
           let old = same.waits x k waits in
-          let names : message_name old.place ≡ message_name m = apart.told (message_name old.place) (message_name m) k old.told told in
+          let names : message_name old.place ≡ message_name m = apart.reported (message_name old.place) (message_name m) k old.reported reported in
           let at_m : old.place ≡ m = omega (arith, names) in
           not_this (n == x) refl (old.lives ∙ ap (λ i. Some i) at_m) waits
 
@@ -227,7 +227,7 @@ module _ (p : Image) (w new : Kept) (cs : List Cell) (same : SameTokens p w cs) 
   lives_left : (x at : ℕ) → live_at new x ≡ Some at → is_some (awaited (requested left x)) ≡ true
   lives_left x at e = grind (arith, nat_tests, was_lives x at e, waited, asked_then x, some_of, waits_for k)
 
-  class_left : (x : ℕ) (b : Bool) → (m == x) ≡ b → class_at new x ≡ class_told left x
+  class_left : (x : ℕ) (b : Bool) → (m == x) ≡ b → class_at new x ≡ class_reported left x
   class_left x true is = grind (arith, nat_tests, eqb-true m x is, gone_token)
   class_left x false other = grind (arith, nat_tests, other_than m x other, other_token x other)
 

@@ -5,10 +5,10 @@ use Rattle.std.proofs.Common.{Option, None, slice_set, slice_index_or, refl, sym
 use Rattle.std.proofs.lemmas.Bool.{eqb-true, eq-eqb, ne_eqb}
 use Rattle.std.proofs.lemmas.List.{get_or-set_same, get_or-set_other}
 use Rattle.aom_cells.specs.Heap.{Heap, null}
-use Rattle.aom_roles.specs.Tables.{put_at}
+use Rattle.aom_roles.specs.Tables.{set_extending}
 use Rattle.aom_semantics.specs.Places.{Place, Register, Going, same_place, Object, changed}
 use Rattle.aom_semantics.specs.State.{Frame, Task, Run, Destroy}
-use Rattle.aom_machine_state.proofs.SemanticsLemmas.{at-put_at, same_place-true, transfer}
+use Rattle.aom_machine_state.proofs.SemanticsLemmas.{at-set_extending, same_place-true, transfer}
 use Rattle.aom_frames.specs.declared.frame.Frame.{Frame as Machine_frame}
 use Rattle.aom_frames.specs.declared.task.Task.{Task as Machine_task}
 use Rattle.aom_frames.specs.declared.task.Task.TheVariants.{Run as Runs_frame, Destroy as Destroys}
@@ -69,8 +69,8 @@ value_kept f ms h es others place r = value_counted f ms h es others f.counters 
 
 -- a word is written in the checked machine
 pub word_written : (fr : Frame) (ts : List Task) (i place : ℕ) (w : Option ℤ) (r : Place)
-    → word_at (Run (record fr { words = put_at None fr.words i w; place = place }) ∷ ts) r ≡ changed (word_at (Run fr ∷ ts)) (Register (length ts) i) w r
-word_written fr ts i place w x = grind (arith, nat_tests, at-put_at None fr.words i)
+    → word_at (Run (record fr { words = set_extending None fr.words i w; place = place }) ∷ ts) r ≡ changed (word_at (Run fr ∷ ts)) (Register (length ts) i) w r
+word_written fr ts i place w x = grind (arith, nat_tests, at-set_extending None fr.words i)
 
 pub word_counted : (fr : Frame) (ts : List Task) (counters : List ℕ) (place : ℕ) (r : Place) →
     word_at (Run (record fr { counters = counters; place = place }) ∷ ts) r ≡ word_at (Run fr ∷ ts) r

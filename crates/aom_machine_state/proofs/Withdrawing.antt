@@ -15,11 +15,11 @@ use Rattle.aom_clients.specs.declared.entry.QueueEntry.TheVariants.{Connect, Mes
 use Rattle.aom_clients.specs.declared.place.MessagePlace.{MessagePlace}
 use Rattle.aom_clients.specs.declared.place.MessagePlace.TheVariants.{Free, Queued}
 use Rattle.aom_clients.specs.Table.{is_out_of, is_queued, is_waiting_of, sender}
-use Rattle.aom_machine_state.proofs.SafetyLemmas.{cell_of, cell_of_sifted, kept as left_cell, service_cell, service_in, withdrawn_so}
+use Rattle.aom_machine_state.proofs.SafetyLemmas.{cell_of, cell_of_filtered_cells, kept as left_cell, service_cell, service_in, withdrawn_so}
 use Rattle.aom_semantics.specs.Places.{Asked, Cell, Close_of, Connect_of, Elsewhere, Object, Place as Owner}
-use Rattle.aom_semantics.specs.Places.{Queued as Waits_at, named, Sender, Service, Tidy, service_of}
+use Rattle.aom_semantics.specs.Places.{Queued as Waits_at, named, Sender, Service, NoDuplicates, service_of}
 use Rattle.aom_semantics.specs.Servers.{asked_last, discarded, holds_slot, is_among, is_from, is_queue, is_queue_of, left_by, reserved, stays, withdrawn}
-use Rattle.aom_semantics.specs.Clients.{client_at, told, with_client}
+use Rattle.aom_semantics.specs.Clients.{client_at, reported, with_client}
 use Rattle.aom_semantics.specs.State.{State}
 use Rattle.aom_machine_state.proofs.Serving.{at_set, same_client, same_closing}
 use Rattle.aom_machine_state.specs.Serving.{Once, SameClients, asked_by, holds, message_name, owner_of, sent_by, sessionless, waits_in}
@@ -120,7 +120,7 @@ module _ (c : ℕ) (places : List MessagePlace) where
 -- ---- all of it
 
 -- what waits in a queue has no queue and no sessions of its own
-module _ (s : kept.State) (cs : List Cell) (clients : List Client) (same : SameClients s cs clients) (tidy : Tidy cs) (c : ℕ) (client : c < 64)
+module _ (s : kept.State) (cs : List Cell) (clients : List Client) (same : SameClients s cs clients) (no_duplicates : NoDuplicates cs) (c : ℕ) (client : c < 64)
     (plain : (n : ℕ) (x : Cell) → cell_of cs n ≡ Some x → is_queue x.owner ≡ true → (x.service.queue ≡ []) × (x.service.sessions ≡ []))
     (waiting : (n : ℕ) → AllWait s.places (kept.queue_at s n)) where
   abbrev then : kept.State
@@ -130,7 +130,7 @@ module _ (s : kept.State) (cs : List Cell) (clients : List Client) (same : SameC
   left = withdrawn c cs
 
   cell_then : (n : ℕ) → cell_of left n ≡ left_of c (cell_of cs n)
-  cell_then n = ap (λ l. cell_of l n) (withdrawn_so c cs) ∙ cell_of_sifted (drops c) (serves c) cs n tidy
+  cell_then n = ap (λ l. cell_of l n) (withdrawn_so c cs) ∙ cell_of_filtered_cells (drops c) (serves c) cs n no_duplicates
 
   service_then : (n : ℕ) → service_of left n ≡ service_in (left_of c (cell_of cs n))
   service_then n = service_cell left n ∙ ap service_in (cell_then n)
@@ -158,23 +158,23 @@ module _ (s : kept.State) (cs : List Cell) (clients : List Client) (same : SameC
   swapped a b false e = ne_eqb b a (λ same. false≢true (sym e ∙ eq-eqb a b (sym same)))
 
   -- a cell with its sender and its place
-  sender_told : (j : ℕ) (x : Option Cell) → cell_of cs (message_name j) ≡ x → sent_by (holds s j) (kept.place_at s j) ≡ (service_in x).sender
-  sender_told j x at = same.senders j ∙ ap (λ (v : Service). v.sender) (service_cell cs (message_name j) ∙ ap service_in at)
+  sender_reported : (j : ℕ) (x : Option Cell) → cell_of cs (message_name j) ≡ x → sent_by (holds s j) (kept.place_at s j) ≡ (service_in x).sender
+  sender_reported j x at = same.senders j ∙ ap (λ (v : Service). v.sender) (service_cell cs (message_name j) ∙ ap service_in at)
 
-  waits_told : (j : ℕ) (x : Option Cell) → cell_of cs (message_name j) ≡ x → is_queued (kept.place_at s j) ≡ waits_in (owner_in x)
-  waits_told j x at = same.waits j ∙ ap waits_in (owner_cell cs (message_name j) ∙ ap owner_in at)
+  waits_reported : (j : ℕ) (x : Option Cell) → cell_of cs (message_name j) ≡ x → is_queued (kept.place_at s j) ≡ waits_in (owner_in x)
+  waits_reported j x at = same.waits j ∙ ap waits_in (owner_cell cs (message_name j) ∙ ap owner_in at)
 
   goes_so : (j : ℕ) (x : Cell) → cell_of cs (message_name j) ≡ Some x →
       (is_queued (kept.place_at s j) && is_from c (sent_by (holds s j) (kept.place_at s j))) ≡ drops c x
-  goes_so j x at = grind (arith, nat_tests, waits_told j (Some x) at, sender_told j (Some x) at)
+  goes_so j x at = grind (arith, nat_tests, waits_reported j (Some x) at, sender_reported j (Some x) at)
 
   none_goes : (p : MessagePlace) (slot : Bool) → sent_by slot p ≡ None → (is_queued p && is_from c (sent_by slot p)) ≡ false
   none_goes x slot e = grind arith
 
   left_sender : (j : ℕ) (x : Option Cell) → cell_of cs (message_name j) ≡ x → remains c (is_queued (kept.place_at s j)
       && is_from c (sent_by (holds s j) (kept.place_at s j))) (sent_by (holds s j) (kept.place_at s j)) ≡ (service_in (left_of c x)).sender
-  left_sender j None at = grind (arith, nat_tests, none_goes, sender_told j None at)
-  left_sender j (Some x) at = grind (arith, nat_tests, goes_so j x at, sender_told j (Some x) at, service_in)
+  left_sender j None at = grind (arith, nat_tests, none_goes, sender_reported j None at)
+  left_sender j (Some x) at = grind (arith, nat_tests, goes_so j x at, sender_reported j (Some x) at, service_in)
 
   senders_then : (j : ℕ) → sent_by (holds then j) (kept.place_at then j) ≡ (service_of left (message_name j)).sender
   senders_then j = ap (λ p. sent_by (is_among j (kept.sent_at then (sender p))) p) (place_then j)
@@ -195,14 +195,14 @@ module _ (s : kept.State) (cs : List Cell) (clients : List Client) (same : SameC
           ∙ among_then (sender p) j ∙ ap (λ b. cond b false (is_among j (kept.sent_at s (sender p)))) (swapped (sender p) c true (ap (λ k. k == c) is ∙ e))
 
   -- what is told of places alone, and of cells but for what clients have there
-  told_then : (f : MessagePlace → Bool) (g : Option Cell → Bool) → ((j : ℕ) → f (kept.left_place c (kept.place_at s j)) ≡ cond
+  reported_then : (f : MessagePlace → Bool) (g : Option Cell → Bool) → ((j : ℕ) → f (kept.left_place c (kept.place_at s j)) ≡ cond
       (is_queued (kept.place_at s j) && is_from c (sent_by (holds s j) (kept.place_at s j))) false (f (kept.place_at s j))) →
       ((x : Cell) (v : Service) → g (Some (record x { service = v })) ≡ g (Some x)) → g None ≡ false → ((j : ℕ) (x : Option Cell) →
       cell_of cs (message_name j) ≡ x → f (kept.place_at s j) ≡ g x) → (j : ℕ) → f (kept.place_at then j) ≡ g (cell_of left (message_name j))
-  told_then f g leaves plain none told j = grind (arith, nat_tests, place_then j, cell_of, cell_then, none_goes, sender_told j None, goes_so j)
+  reported_then f g leaves plain none reported j = grind (arith, nat_tests, place_then j, cell_of, cell_then, none_goes, sender_reported j None, goes_so j)
 
   waits_then : (j : ℕ) → is_queued (kept.place_at then j) ≡ waits_in (owner_of left (message_name j))
-  waits_then j = told_then is_queued (λ x. waits_in (owner_in x)) (λ j. queued_left c (holds s j) (kept.place_at s j)) (λ x v. refl) refl waits_told j
+  waits_then j = reported_then is_queued (λ x. waits_in (owner_in x)) (λ j. queued_left c (holds s j) (kept.place_at s j)) (λ x v. refl) refl waits_reported j
       ∙ sym (ap waits_in (owner_cell left (message_name j)))
 
   out_then : (d j : ℕ) → is_among j (kept.sent_at then d) ≡ true → is_out_of d (kept.place_at then j) ≡ true
@@ -237,7 +237,7 @@ module _ (s : kept.State) (cs : List Cell) (clients : List Client) (same : SameC
       once_then y d = grind arith
 
   -- its close is asked for where its session was open
-  module _ (p : Image) (st : State) (to : Client) (tidy_left : Tidy left) (server : (n session slots : ℕ) → kept.client_at s c ≡ Open n session slots →
+  module _ (p : Image) (st : State) (to : Client) (tidy_left : NoDuplicates left) (server : (n session slots : ℕ) → kept.client_at s c ≡ Open n session slots →
       (o : Object) × (o.name ≡ n) × (named left o.name ≡ Some o) × (o.name < length then.queues)) where
     abbrev moved : kept.State
     moved = kept.with_client c to then
@@ -245,13 +245,13 @@ module _ (s : kept.State) (cs : List Cell) (clients : List Client) (same : SameC
     now : SameClients moved left (with_client c (sessionless to) clients)
     now = same_client then left clients same_withdrawn c client to
 
-    told_so : (x : Client) → kept.client_at s c ≡ x → SameClients (kept.told x c moved) (told p c st (sessionless x) left) (with_client c (sessionless to) clients)
-    told_so (Open n session slots) at =
+    reported_so : (x : Client) → kept.client_at s c ≡ x → SameClients (kept.reported x c moved) (reported p c st (sessionless x) left) (with_client c (sessionless to) clients)
+    reported_so (Open n session slots) at =
         let o = server n session slots at in
         subst (λ k. SameClients (kept.queued k (Close c) moved) (reserved (asked_last (Close_of c)) k left) (with_client c (sessionless to) clients)) o.1
         (same_closing moved left (with_client c (sessionless to) clients) now o.0 o.2 c client o.3)
-    told_so _ at = now
+    reported_so _ at = now
 
-    pub same_left : SameClients (kept.leaving (Some to) c s) (told p c st (client_at clients c) left) (with_client c (sessionless to) clients)
-    same_left = subst (λ x. SameClients (kept.leaving (Some to) c s) (told p c st x left) (with_client c (sessionless to) clients)) (same.at c)
-        (told_so (kept.client_at s c) refl)
+    pub same_left : SameClients (kept.leaving (Some to) c s) (reported p c st (client_at clients c) left) (with_client c (sessionless to) clients)
+    same_left = subst (λ x. SameClients (kept.leaving (Some to) c s) (reported p c st x left) (with_client c (sessionless to) clients)) (same.at c)
+        (reported_so (kept.client_at s c) refl)

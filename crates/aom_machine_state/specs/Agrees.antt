@@ -9,10 +9,10 @@ use Rattle.aom_cells.specs.Heap.{Heap, null, cell_at, count}
 use Rattle.aom_cells.specs.Heap.{word_at as cell_word}
 use Rattle.aom_cells.specs.declared.cell.Cell.{Cell as Machine_cell}
 use Rattle.aom_semantics.specs.Places.{Place, Register, Entry, Field, Going, Elsewhere, Object, Cell, held, in_session, named, requested, word_field, count_cells}
-use Rattle.aom_semantics.specs.State.{home_view, Home, Static, AtRoot, Inside, Frame, Seat, Dispatch, Of_main, Main_left, Of_root, Of_object, Object_left, Asks, Answered, Of_server, Stage, word, counter, Task, Run, Trapped, Destroy, Closing, Unwind, Dispatched, Item, An_object, An_operation, A_mark, State}
+use Rattle.aom_semantics.specs.State.{receiver_view, Receiver, Static, AtRoot, Inside, Frame, OwnedObject, Dispatch, Of_main, Main_left, Of_root, Of_object, Object_left, Asks, Answered, Of_server, Stage, word, counter, Task, Run, Trapped, Destroy, Closing, Unwind, Dispatched, Item, An_object, An_operation, A_mark, State}
 use Rattle.aom_semantics.specs.State as checked
-use Rattle.aom_active.specs.Agrees.{Active, StandsFor, queued}
-use Rattle.aom_classes.specs.Roles.{or_else}
+use Rattle.aom_active_objects.specs.Agrees.{Active, RefinesRequests, queued}
+use Rattle.aom_link_conditions.specs.Roles.{or_else}
 use Rattle.aom_frames.specs.Views.{class_above}
 use Rattle.aom_frames.specs.declared.view.View.{View}
 use Rattle.aom_frames.specs.declared.frame.Frame.{Frame as Machine_frame}
@@ -62,22 +62,22 @@ word_at ts (Going k) = None
 word_at ts (Elsewhere o) = None
 
 -- the cell that a method works on
-abbrev pub home_number : Home → ℕ
-home_number Static = null
-home_number AtRoot = null
-home_number (Inside o from) = o.name
+abbrev pub receiver_number : Receiver → ℕ
+receiver_number Static = null
+receiver_number AtRoot = null
+receiver_number (Inside o from) = o.name
 
 -- the class as which the object of a method counts
-abbrev pub viewed : View → Home → Option ℕ
-viewed v home = or_else (class_above v) (home_view home)
+abbrev pub viewed : View → Receiver → Option ℕ
+viewed v receiver = or_else (class_above v) (receiver_view receiver)
 
 pub record SameFrame (f : Machine_frame) (fr : Frame) : Type 0 where
   pub method : f.method ≡ fr.method
   pub place : f.place ≡ fr.place
-  pub this : f.this ≡ home_number fr.home
-  pub view : fr.view ≡ viewed f.view fr.home
+  pub this : f.this ≡ receiver_number fr.receiver
+  pub view : fr.view ≡ viewed f.view fr.receiver
   -- which is no message
-  pub housed : f.this ≢ null → f.this < 4096
+  pub receiver_held : f.this ≢ null → f.this < 4096
   pub wide : length f.registers ≡ 16
   -- the rounds that are left of each loop
   pub counters : (i : ℕ) → slice_index_or f.counters i 0 ≡ counter fr i
@@ -88,8 +88,8 @@ abbrev pub subject_of : Subject → Object
 subject_of x = record { name = x.number; thing = An_object_of x.class }
 
 -- the object that is dispatched, in that place
-abbrev pub seat_of : Place → Subject → Seat
-seat_of q x = record { object = subject_of x; place = q }
+abbrev pub owned_object_of : Place → Subject → OwnedObject
+owned_object_of q x = record { object = subject_of x; place = q }
 
 -- how far the dispatch of a server has come
 abbrev pub stage_of : Machine_stage → Stage
@@ -104,11 +104,11 @@ abbrev pub dispatch_of : Place → Machine_dispatch → Dispatch
 dispatch_of q Main = Of_main
 dispatch_of q (MainLeft code) = Main_left code
 dispatch_of q Root = Of_root
-dispatch_of q (Of_one x) = Of_object (seat_of q x)
-dispatch_of q (One_left x code) = Object_left (seat_of q x) code
-dispatch_of q (One_asks x) = Asks (seat_of q x)
-dispatch_of q (One_answered x answer) = Answered (seat_of q x) answer
-dispatch_of q (Of_one_served x client stage) = Of_server (seat_of q x) client (stage_of stage)
+dispatch_of q (Of_one x) = Of_object (owned_object_of q x)
+dispatch_of q (One_left x code) = Object_left (owned_object_of q x) code
+dispatch_of q (One_asks x) = Asks (owned_object_of q x)
+dispatch_of q (One_answered x answer) = Answered (owned_object_of q x) answer
+dispatch_of q (Of_one_served x client stage) = Of_server (owned_object_of q x) client (stage_of stage)
 
 -- where its object sits the machine does not keep
 abbrev pub SameDispatch : Machine_dispatch → Dispatch → Type 0
@@ -164,7 +164,7 @@ pub record SameCells (p : Image) (h : Heap) (cs : List Cell) : Type 0 where
 
 -- the same objects are enlisted, by their numbers, with the same requests, and something waits at the same servers
 pub record SameRequests (p : Image) (a : Active) (cs : List Cell) : Type 0 where
-  pub stands : StandsFor a (requested cs) (queued p cs)
+  pub stands : RefinesRequests a (requested cs) (queued p cs)
   pub limit : a.table.limit ≡ p.header.cells
 
 -- the same cells have a session, by their numbers, and the same natives are killed
@@ -187,5 +187,5 @@ pub record Agrees (p : Image) (m : Parts) (s : State) : Type 0 where
   pub entry_room : 1024 ≤ m.entries.depth
 
 -- the word that the machine has heard of a native
-abbrev pub heard_by : Parts → ℤ
-heard_by m = int_wrap w32 m.heard
+abbrev pub observed_by : Parts → ℤ
+observed_by m = int_wrap w32 m.observed

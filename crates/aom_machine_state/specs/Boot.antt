@@ -2,13 +2,13 @@
 use Rattle.std.specs.Prelude.{ℕ, ◌≡◌, false, replicate, [], ◌∷◌, Some, None}
 use Rattle.aom_image.specs.Image.{Image}
 use Rattle.aom_image.specs.WellFormed.{WellFormed}
-use Rattle.aom_classes.specs.Roles.{main_of}
+use Rattle.aom_link_conditions.specs.Roles.{main_of}
 use Rattle.aom_cells.specs.Heap.{null}
 use Rattle.aom_frames.specs.Tasks.{fresh}
 use Rattle.aom_frames.specs.declared.task.Task.TheVariants.{Run, Trapped, Dispatched}
 use Rattle.aom_frames.specs.declared.dispatch.Dispatch.TheVariants.{Main}
 use Rattle.aom_frames.specs.declared.item.Item.TheVariants.{Mark}
-use Rattle.aom_active.specs.Agrees.{StandsFor}
+use Rattle.aom_active_objects.specs.Agrees.{RefinesRequests}
 use Rattle.aom_clients.specs.Clients.{at_first}
 use Rattle.aom_clients.specs.Lists.{empty as no_list}
 use Rattle.aom_cells.specs.Tokens.{none_of}
@@ -23,7 +23,7 @@ pub record Booted (p : Image) (m : Parts) : Type 0 where
   pub depth : m.stack.depth ≡ 2048
   pub cells : m.cells ≡ record { slots = []; limit = p.header.cells }
   pub entries : m.entries ≡ record { items = Mark ∷ []; depth = 1024 }
-  pub requests : StandsFor m.active (λ n. None) (λ n. None)
+  pub requests : RefinesRequests m.active (λ n. None) (λ n. None)
   pub numbers : m.active.table.limit ≡ p.header.cells
   pub sessions : m.sessions ≡ record { flags = replicate p.header.cells false; killed = [] }
   pub root : m.root ≡ null

@@ -7,8 +7,8 @@ use Rattle.aom_machine_state.specs.LineBuffer.{LineBuffer}
 use Rattle.aom_machine_state.specs.declared.parts.Parts.{Parts}
 use Rattle.aom_clients.specs.Lists.{Table, without}
 use Rattle.aom_scheduler.specs.Requests.{request_at}
-use Rattle.aom_active.specs.Agrees.{Active}
-use Rattle.aom_active.specs.Meanings.{Removes}
+use Rattle.aom_active_objects.specs.Agrees.{Active}
+use Rattle.aom_active_objects.specs.Meanings.{Removes}
 
 -- a request is refused: the script names its number, or, where it is for a cell, the heap is full
 abbrev pub refuses_entry : LineBuffer → Parts → Bool

@@ -6,7 +6,7 @@ use Rattle.aom_instructions.specs.declared.instr.Instr.{Instr}
 use Rattle.aom_frames.specs.declared.task.Task.{Task as Machine_task}
 use Rattle.aom_frames.specs.declared.task.Task.TheVariants.{Run as Runs_frame, Trapped as Is_trap, Destroy as Destroys, Unwind as Unwinds, Dispatched as Ends}
 use Rattle.aom_semantics.specs.Calls.{callee_in, result_register}
-use Rattle.aom_typings.specs.Calls.{Among, destructors, thing_class}
+use Rattle.aom_static_bounds.specs.Calls.{Among, destructors, thing_class}
 use Rattle.aom_semantics.specs.Places.{Entry, Going, Object, Cell, held}
 use Rattle.aom_semantics.specs.State.{Task, Run, Trapped, Closing, Destroy, Unwind, Dispatched, Item, An_object, An_operation, A_mark, State}
 

@@ -32,9 +32,9 @@ asked_by places (Close client) = Close_of client
 -- the sender of the message of a place, where it holds a slot or none
 abbrev pub sent_by : Bool → MessagePlace → Option Sender
 sent_by slot Free = None
-sent_by slot (Queued client) = Some (record { client = client; holds_slot = slot; is_told = true })
-sent_by slot (Held client) = Some (record { client = client; holds_slot = slot; is_told = true })
-sent_by slot (Discarded client) = Some (record { client = client; holds_slot = slot; is_told = false })
+sent_by slot (Queued client) = Some (record { client = client; holds_slot = slot; is_reported = true })
+sent_by slot (Held client) = Some (record { client = client; holds_slot = slot; is_reported = true })
+sent_by slot (Discarded client) = Some (record { client = client; holds_slot = slot; is_reported = false })
 
 -- the place has a message
 abbrev pub is_taken : MessagePlace → Bool

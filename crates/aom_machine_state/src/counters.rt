@@ -101,7 +101,7 @@ impl Counters {
     }
 
     /// A dispatch begins, which has taken no step. The natives are polled anew after it.
-    pub fn count_anew(&mut self)
+    pub fn reset_counts(&mut self)
         ensures { self.new ≡ record self.old { steps = 0; polled = 0 } }
     {
         self.steps = 0;

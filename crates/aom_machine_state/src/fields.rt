@@ -1,7 +1,7 @@
 //! The words and the owning fields of what a method works on: of its cell, or the root where it has none.
 ghost use Rattle.std.specs.Prelude.{◌≡◌};
 ghost use Rattle.aom_cells.specs.Heap.{null, Lives, word_at};
-ghost use Rattle.aom_frames.specs.Tasks.{Runs};
+ghost use Rattle.aom_frames.specs.Tasks.{TopFrameIs};
 ghost use Rattle.aom_machine_state.specs.Fields.{this, ThisLives, field_here, PutsWord, WritesField};
 
 use crate::parts::Parts;
@@ -12,7 +12,7 @@ use std::mem;
 impl Parts {
     /// The cell of the method that runs.
     pub fn cell(&self) -> CellId
-        requires runs { Runs self.now.stack.tasks }
+        requires runs { TopFrameIs self.now.stack.tasks }
         requires lives { Lives self.now.cells (this self.now) }
         ensures { result ≡ this self.now }
     {
@@ -21,7 +21,7 @@ impl Parts {
 
     /// A word of the method's cell.
     pub fn field_word(&self, word: WordIndex) -> i32
-        requires runs { Runs self.now.stack.tasks }
+        requires runs { TopFrameIs self.now.stack.tasks }
         requires lives { Lives self.now.cells (this self.now) }
         ensures { result ≡ word_at self.now.cells (this self.now) word }
     {
@@ -29,7 +29,7 @@ impl Parts {
     }
 
     pub fn set_field_word(&mut self, word: WordIndex, value: i32)
-        requires runs { Runs self.old.stack.tasks }
+        requires runs { TopFrameIs self.old.stack.tasks }
         requires lives { Lives self.old.cells (this self.old) }
         ensures written { PutsWord (this self.old) word value self.old.cells self.new.cells }
         ensures rest { self.new ≡ record self.old { cells = self.new.cells } }
@@ -40,8 +40,8 @@ impl Parts {
 
     /// The number in a field.
     pub fn field(&self, field: FieldIndex) -> u32
-        requires runs { Runs self.now.stack.tasks }
-        requires housed { ThisLives self.now }
+        requires runs { TopFrameIs self.now.stack.tasks }
+        requires receiver_held { ThisLives self.now }
         ensures { result ≡ field_here field self.now }
     {
         if self.stack.this() == NULL {
@@ -52,8 +52,8 @@ impl Parts {
 
     /// Takes the number out of a field, and leaves null.
     pub fn take_field(&mut self, field: FieldIndex) -> u32
-        requires runs { Runs self.old.stack.tasks }
-        requires housed { ThisLives self.old }
+        requires runs { TopFrameIs self.old.stack.tasks }
+        requires receiver_held { ThisLives self.old }
         ensures value { result ≡ field_here field self.old }
         ensures emptied { WritesField field null self.old self.new }
         ensures stack { self.new.stack ≡ self.old.stack }
@@ -66,8 +66,8 @@ impl Parts {
     }
 
     pub fn set_field(&mut self, field: FieldIndex, number: u32)
-        requires runs { Runs self.old.stack.tasks }
-        requires housed { ThisLives self.old }
+        requires runs { TopFrameIs self.old.stack.tasks }
+        requires receiver_held { ThisLives self.old }
         ensures written { WritesField field number self.old self.new }
         ensures stack { self.new.stack ≡ self.old.stack }
     {

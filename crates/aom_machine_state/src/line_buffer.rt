@@ -4,7 +4,7 @@ ghost use Rattle.std.specs.List.{list_any};
 ghost use Rattle.aom_machine_state.specs.LineBuffer.{step_lines};
 
 use crate::refusals::Refusals;
-use aom_linked::Linked;
+use aom_linker::Linked;
 use aom_transcript::Line;
 use std::alloc::{AllocError, Global};
 use std::marker::Model;

@@ -1,6 +1,6 @@
 //! What the machine keeps, as it begins. All the memory that is ever taken is taken here.
 ghost use Rattle.std.specs.Prelude.{◌≡◌, ◌≤◌, [], ◌∷◌, None, IfOk, false, replicate};
-ghost use Rattle.aom_active.specs.Agrees.{StandsFor};
+ghost use Rattle.aom_active_objects.specs.Agrees.{RefinesRequests};
 ghost use Rattle.aom_cells.specs.Heap.{null};
 ghost use Rattle.aom_frames.specs.declared.item.Item.TheVariants.{Mark};
 ghost use Rattle.aom_clients.specs.Clients.{at_first};
@@ -10,7 +10,7 @@ ghost use Rattle.aom_frames.specs.declared.task.Task.TheVariants.{Dispatched, Ru
 ghost use Rattle.aom_clients.specs.Lists.{empty as no_list};
 ghost use Rattle.aom_cells.specs.Tokens.{none_of};
 
-use aom_active::ActiveObjects;
+use aom_active_objects::ActiveObjects;
 use aom_cells::{Cells, Messages, NULL, Sessions, Tokens};
 use aom_clients::{Clients, Lists};
 use aom_frames::{Cleanup, Dispatch, Frame, Task, Tasks};
@@ -28,14 +28,14 @@ const CLASSES: usize = 256;
 
 /// What is at hand, and the cleanup entries.
 #[derive(Drop)]
-pub(crate) struct AtHand {
+pub(crate) struct TaskStacks {
     pub(crate) stack: Tasks,
     pub(crate) entries: Cleanup,
 }
 
-impl AtHand {
+impl TaskStacks {
     /// Main under the trap of its dispatch.
-    pub(crate) fn begin(alloc: Global, main: MethodNumber) -> Result<AtHand, AllocError>
+    pub(crate) fn begin(alloc: Global, main: MethodNumber) -> Result<TaskStacks, AllocError>
         ensures tasks { IfOk result (λ c. c.stack.tasks ≡ Run (fresh main null) ∷ Trapped ∷ Dispatched Main ∷ []) }
         ensures depth { IfOk result (λ c. c.stack.depth ≡ 2048) }
         ensures entries { IfOk result (λ c. c.entries ≡ record { items = Mark ∷ []; depth = 1024 }) }
@@ -46,7 +46,7 @@ impl AtHand {
         stack.push(Task::Dispatched(Dispatch::Main));
         stack.push(Task::Trapped);
         stack.push(Task::Run(Frame::begin(main, NULL)));
-        Ok(AtHand { stack, entries })
+        Ok(TaskStacks { stack, entries })
     }
 }
 
@@ -64,7 +64,7 @@ impl Objects {
         requires { limit ≤ 4096 }
         ensures cells { IfOk result (λ o. o.cells ≡ record { slots = []; limit = limit }) }
         ensures sessions { IfOk result (λ o. o.sessions ≡ record { flags = replicate limit false; killed = [] }) }
-        ensures requests { IfOk result (λ o. StandsFor o.active (λ n. None) (λ n. None)) }
+        ensures requests { IfOk result (λ o. RefinesRequests o.active (λ n. None) (λ n. None)) }
         ensures numbers { IfOk result (λ o. o.active.table.limit ≡ limit) }
     {
         Ok(Objects {
@@ -78,7 +78,7 @@ impl Objects {
 /// No active object and no server.
 fn none_enlisted(alloc: Global, cells: usize) -> Result<ActiveObjects, AllocError>
     requires { cells ≤ 4096 }
-    ensures requests { IfOk result (λ a. StandsFor a (λ n. None) (λ n. None)) }
+    ensures requests { IfOk result (λ a. RefinesRequests a (λ n. None) (λ n. None)) }
     ensures numbers { IfOk result (λ a. a.table.limit ≡ cells) }
 {
     ActiveObjects::with_limit(alloc, cells)

@@ -33,7 +33,7 @@ impl OwedRequest {
     }
 
     /// It waits for one poll less.
-    fn lower(&mut self)
+    fn decrement(&mut self)
         ensures { self.new ≡ lowered self.old }
     {
         self.count = self.count.saturating_sub(1);
@@ -50,11 +50,11 @@ impl Model for Delay {
 }
 
 /// Each entry waits for one poll less.
-fn lower_all(entries: &mut [OwedRequest])
+fn decrement_all(entries: &mut [OwedRequest])
     ensures { entries.new ≡ map lowered entries.old }
 {
     for entry in entries.iter_mut() {
-        entry.lower();
+        entry.decrement();
     }
 }
 
@@ -150,7 +150,7 @@ impl Native for Delay {
         match first_due(self.entries.as_slice()) {
             Some(at) => Some(self.entries.remove(at).completed()),
             None => {
-                lower_all(self.entries.as_mut_slice());
+                decrement_all(self.entries.as_mut_slice());
                 None
             }
         }

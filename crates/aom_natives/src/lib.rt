@@ -25,7 +25,7 @@ pub use delay::{Delay, OwedRequest};
 pub use fault::BootFault;
 pub use kind::NativeKind;
 pub use line::Line;
-pub use living::Living;
+pub use living::LiveNative;
 pub use native::Native;
 pub use natives::Natives;
 pub use outstanding::Outstanding;

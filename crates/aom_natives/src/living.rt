@@ -7,7 +7,7 @@ use crate::outstanding::Outstanding;
 
 /// A living native, and the ids of the requests that are outstanding there.
 #[derive(Drop)]
-pub struct Living {
+pub struct LiveNative {
     pub native: Box<dyn Native>,
     pub ids: Outstanding,
 }
@@ -44,7 +44,7 @@ fn close_box(native: &mut Box<dyn Native>, id: u32)
     native.close(id);
 }
 
-impl Living {
+impl LiveNative {
     pub(crate) fn open(&mut self, id: u32) -> i32
         requires agree { Agrees self.old.ids (owed self.old.native) }
         ensures agree { Agrees self.new.ids (owed self.new.native) }

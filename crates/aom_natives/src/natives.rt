@@ -3,7 +3,7 @@ ghost use Rattle.std.specs.Prelude.{ℕ, ℤ, pos, ◌≡◌, ◌<◌, ◌≤◌
 ghost use Rattle.aom_natives.specs.Owed.{OweNothing, IsNew, IsOwed, TakesOut};
 ghost use Rattle.aom_natives.specs.Slots.{living_at, ids_at, AllAgree, KeepsOthers};
 
-use crate::living::Living;
+use crate::living::LiveNative;
 use crate::native::Native;
 use crate::outstanding::{Outstanding, is_in};
 use std::alloc::{AllocError, Global};
@@ -11,14 +11,14 @@ use std::alloc::{AllocError, Global};
 /// The natives of a machine, by number. One that was killed is None.
 #[derive(Drop)]
 pub struct Natives {
-    pub slots: Vec<Option<Living>>,
+    pub slots: Vec<Option<LiveNative>>,
 }
 
 /// Room for so many natives and the ids that will be outstanding at each.
 fn room_for(
     alloc: Global,
     count: usize,
-) -> Result<(Vec<Option<Living>>, Vec<Outstanding>), AllocError>
+) -> Result<(Vec<Option<LiveNative>>, Vec<Outstanding>), AllocError>
     ensures slots { IfOk result (λ r. (r.0.items ≡ []) × (count ≤ vec_capacity r.0)) }
     ensures ids { IfOk result (λ r. r.1.items ≡ replicate count []) }
 {
@@ -48,7 +48,7 @@ impl Natives {
         };
         while let Some(ids) = rooms.pop() {
             let native = boxes.remove(0);
-            slots.push(Some(Living { native, ids })).unwrap();
+            slots.push(Some(LiveNative { native, ids })).unwrap();
         }
         Ok(Natives { slots })
     }
@@ -209,7 +209,7 @@ impl Natives {
         ensures others { KeepsOthers self.old.slots.items self.new.slots.items n }
     {
         match self.slots[n].take() {
-            Some(Living { native: _, ids }) => ids.into_ids(),
+            Some(LiveNative { native: _, ids }) => ids.into_ids(),
             None => unreachable!(),
         }
     }

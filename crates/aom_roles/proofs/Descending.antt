@@ -44,9 +44,9 @@ alone : (b : Bool) → (b || false) ≡ b
 alone true = refl
 alone false = refl
 
-no_more : (p : Image) (n c d : ℕ) → c ≤ 0 → ((c == d) || descends_in p n (parent_of p c) d) ≡ (c == d)
+implied : (p : Image) (n c d : ℕ) → c ≤ 0 → ((c == d) || descends_in p n (parent_of p c) d) ≡ (c == d)
 unfolding descends_in
-no_more p n c d le =
+implied p n c d le =
     let zero_so : c ≡ 0 = omega arith in
     ap (λ o. (c == d) || descends_in p n o d) (ap (λ i. parent_of p i) zero_so ∙ none_below p) ∙ alone (c == d)
 
@@ -57,8 +57,8 @@ enough p zero (suc m) None d a b = refl
 enough p (suc n) zero None d a b = refl
 enough p (suc n) (suc m) None d a b = refl
 enough p zero zero (Some c) d a b = refl
-enough p zero (suc m) (Some c) d a b = sym (no_more p m c d a)
-enough p (suc n) zero (Some c) d a b = no_more p n c d b
+enough p zero (suc m) (Some c) d a b = sym (implied p m c d a)
+enough p (suc n) zero (Some c) d a b = implied p n c d b
 enough p (suc n) (suc m) (Some c) d a b = ap (λ x. (c == d) || x) (enough p n m (parent_of p c) d (fewer p c n a) (fewer p c m b))
 
 -- ---- what holds of a class and goes from a parent to its children holds of all that descend from it

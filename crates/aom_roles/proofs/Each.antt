@@ -36,15 +36,15 @@ pub first_here : {X : Type 0} (P : ℕ → X → Type 0) (xs : List X) (i : ℕ)
 first_here P xs i x h lt e un = record { there = lt; fails = λ here. un (rw (slice_get_read xs (length xs) i x refl lt e) at here); before = h }
 
 -- what is told of there being none, by a test that found it
-pub told : {P : Type 0} (o : Option ℕ) (r : Bool) → is_some o ≡ not r → IsTrue (not (is_some o)) ↔ P → IsTrue r ↔ P
-told o true e h = (λ yes. h.0 (rw e refl), λ p. refl)
-told o false e h = (λ yes. absurd (cc), λ p. absurd (let n = h.1 p in cc))
+pub reported : {P : Type 0} (o : Option ℕ) (r : Bool) → is_some o ≡ not r → IsTrue (not (is_some o)) ↔ P → IsTrue r ↔ P
+reported o true e h = (λ yes. h.0 (rw e refl), λ p. refl)
+reported o false e h = (λ yes. absurd (cc), λ p. absurd (let n = h.1 p in cc))
 
 -- there is none where it holds of each, place by place or of all at once
 pub none_first : {X : Type 0} (P : ℕ → X → Type 0) (xs : List X) (o : Option ℕ) (r : Bool) → is_some o ≡ not r → FirstOf P xs o →
     IsTrue r ↔ ((k : ℕ) → IfSome (slice_get xs k) (P k))
-none_first P xs None r e h = told None r e (λ _. h, λ _. refl)
-none_first P xs (Some i) r e h = told (Some i) r e (λ yes. absurd (cc), λ all. absurd (h.fails (all i)))
+none_first P xs None r e h = reported None r e (λ _. h, λ _. refl)
+none_first P xs (Some i) r e h = reported (Some i) r e (λ yes. absurd (cc), λ all. absurd (h.fails (all i)))
 
 all_each : {X : Type 0} (P : X → Type 0) (xs : List X) → ((k : ℕ) → IfSome (slice_get xs k) P) → All P xs
 all_each P [] h = All-nil P
@@ -62,8 +62,8 @@ none_first_all P xs o r e h =
 
 -- the root may be the root where no session is
 pub none_root : (p : Image) (o : Option ℕ) (r : Bool) → is_some o ≡ not r → SessionRoot p o → IsTrue r ↔ RootOrdered p
-none_root p None r e h = told None r e (λ _. h, λ _. refl)
-none_root p (Some c) r e h = told (Some c) r e (
+none_root p None r e h = reported None r e (λ _. h, λ _. refl)
+none_root p (Some c) r e h = reported (Some c) r e (
   λ yes. absurd (cc),
   λ root. absurd (false≢true (sym (subst (λ o. IfSome o (λ k. is_session p k ≡ false)) h.0 root) ∙ h.1)),
 )

@@ -9,7 +9,7 @@ use Rattle.aom_instructions.specs.declared.instr.Instr.{Instr}
 use Rattle.aom_instructions.specs.Table.{action_of}
 use Rattle.aom_instructions.specs.declared.action.Action.{Action}
 use Rattle.aom_instructions.specs.declared.action.Action.TheVariants as actions
-use Rattle.aom_instructions.specs.declared.action.Manner.TheVariants.{Plain, Trapped}
+use Rattle.aom_instructions.specs.declared.action.CallMode.TheVariants.{Plain, Trapped}
 use Rattle.aom_image.specs.declared.method.Argument.{Argument}
 use Rattle.aom_image.specs.declared.method.Argument.TheVariants as arguments
 use Rattle.aom_image.specs.declared.method.Gives.{Gives}

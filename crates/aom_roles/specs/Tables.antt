@@ -8,11 +8,11 @@ at d (x ∷ xs) zero = x
 at d (x ∷ xs) (suc i) = at d xs i
 
 -- the list with another value there, made longer where that is needed
-abbrev pub put_at : {A : Type 0} → A → List A → ℕ → A → List A
-put_at d [] zero v = v ∷ []
-put_at d [] (suc i) v = d ∷ put_at d [] i v
-put_at d (x ∷ xs) zero v = v ∷ xs
-put_at d (x ∷ xs) (suc i) v = x ∷ put_at d xs i v
+abbrev pub set_extending : {A : Type 0} → A → List A → ℕ → A → List A
+set_extending d [] zero v = v ∷ []
+set_extending d [] (suc i) v = d ∷ set_extending d [] i v
+set_extending d (x ∷ xs) zero v = v ∷ xs
+set_extending d (x ∷ xs) (suc i) v = x ∷ set_extending d xs i v
 
 -- the register is one of so many from the first on
 abbrev pub is_among : ℕ → ℕ → ℕ → Bool

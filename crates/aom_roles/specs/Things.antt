@@ -16,11 +16,11 @@ same_thing Message (Object d) = false
 same_thing Message Message = true
 
 -- a thing of the first kind may stand where one of the second is declared
-abbrev pub stands_for : Image → Thing → Thing → Bool
-stands_for p (Object c) (Object d) = descends p c d
-stands_for p (Object c) Message = false
-stands_for p Message (Object d) = false
-stands_for p Message Message = true
+abbrev pub is_subtype : Image → Thing → Thing → Bool
+is_subtype p (Object c) (Object d) = descends p c d
+is_subtype p (Object c) Message = false
+is_subtype p Message (Object d) = false
+is_subtype p Message Message = true
 
 -- whose owning fields a method works on: nobody's, the root as main's only field, or those of an object of a class
 pub data Holder : Type 0 where

@@ -10,13 +10,13 @@ ghost use Rattle.aom_roles.specs.Firsts.{FirstOf};
 use crate::class_order::{is_session_in, kind_at, sessions_in};
 use crate::roles::same_role;
 use crate::states::{
-    active_states, first_of, is_part, last_of, same_states, server_states, states_of,
+    active_states, first_of, is_nonempty_subset, last_of, same_states, server_states, states_of,
 };
 use aom_image::{
     Argument, ClassKind, ClassNumber, Gives, Image, Instr, Method, MethodFlags, MethodNumber, Role,
     States, Thing,
 };
-use aom_instructions::{Action, Manner};
+use aom_instructions::{Action, CallMode};
 use bitflags::Flags;
 
 /// Whether a method may leave.
@@ -119,7 +119,7 @@ pub fn resting_states(image: &Image, class: Option<ClassNumber>) -> States
 }
 
 /// It takes nothing and gives nothing.
-fn is_bare(method: &Method) -> bool
+fn has_plain_signature(method: &Method) -> bool
     ensures { IsTrue result ↔ (TakesWords 0 method.now × IsTrue (gives_nothing method.now.gives)) }
 {
     takes_words(method, 0) && gives_nothing(method.gives)
@@ -142,7 +142,8 @@ fn does_active(method: &Method) -> bool
 fn does_server(method: &Method) -> bool
     ensures { IsTrue result ↔ DoesServer method.now }
 {
-    is_part(server_states(), method.before) && is_part(server_states(), method.after)
+    is_nonempty_subset(server_states(), method.before)
+        && is_nonempty_subset(server_states(), method.after)
 }
 
 fn is_do(kind: Option<ClassKind>, method: &Method) -> bool
@@ -158,7 +159,7 @@ fn is_do(kind: Option<ClassKind>, method: &Method) -> bool
 fn is_main(kind: Option<ClassKind>, method: &Method) -> bool
     ensures { IsTrue result ↔ IsMain kind method.now }
 {
-    kind.is_none() && is_bare(method) && stands_still(method) && !is_quiet(method)
+    kind.is_none() && has_plain_signature(method) && stands_still(method) && !is_quiet(method)
 }
 
 fn is_construct(kind: Option<ClassKind>, method: &Method) -> bool
@@ -167,14 +168,14 @@ fn is_construct(kind: Option<ClassKind>, method: &Method) -> bool
     kind.is_some()
         && gives_nothing(method.gives)
         && same_states(method.before, first_of(kind))
-        && is_part(states_of(kind), method.after)
+        && is_nonempty_subset(states_of(kind), method.after)
 }
 
 fn is_destruct(kind: Option<ClassKind>, method: &Method) -> bool
     ensures { IsTrue result ↔ IsDestruct kind method.now }
 {
     kind.is_some()
-        && is_bare(method)
+        && has_plain_signature(method)
         && same_states(method.before, states_of(kind))
         && same_states(method.after, last_of(kind))
         && is_quiet(method)
@@ -184,16 +185,16 @@ fn is_run(kind: Option<ClassKind>, method: &Method) -> bool
     ensures { IsTrue result ↔ IsRun kind method.now }
 {
     is_active_in(kind)
-        && is_bare(method)
+        && has_plain_signature(method)
         && same_states(method.before, States::IDLE)
-        && is_part(active_states(), method.after)
+        && is_nonempty_subset(active_states(), method.after)
 }
 
 fn is_cancel(kind: Option<ClassKind>, method: &Method) -> bool
     ensures { IsTrue result ↔ IsCancel kind method.now }
 {
     is_active_in(kind)
-        && is_bare(method)
+        && has_plain_signature(method)
         && same_states(method.before, States::OPEN)
         && same_states(method.after, States::DONE)
         && is_quiet(method)
@@ -206,7 +207,7 @@ fn is_error(kind: Option<ClassKind>, method: &Method) -> bool
         && takes_words(method, 1)
         && gives_word(method.gives)
         && same_states(method.before, States::IDLE.union(States::ACTIVE))
-        && is_part(active_states(), method.after)
+        && is_nonempty_subset(active_states(), method.after)
         && !may_leave(method)
 }
 
@@ -219,7 +220,7 @@ fn is_accept(kind: Option<ClassKind>, method: &Method) -> bool
     takes_words(method, 0)
         && gives_object(sessions, method.gives)
         && same_states(method.before, States::IDLE)
-        && is_part(server_states(), method.after)
+        && is_nonempty_subset(server_states(), method.after)
 }
 
 fn is_service(kind: Option<ClassKind>, method: &Method) -> bool
@@ -297,10 +298,10 @@ fn names_roles(image: &Image, instr: &Instr) -> bool
     ensures { IsTrue result ↔ NamesRoles image.now instr.now }
 {
     match &instr.action() {
-        Action::Call(Manner::Plain, _, method, _, _) => {
+        Action::Call(CallMode::Plain, _, method, _, _) => {
             has_role(image, *method, Role::Do) || has_role(image, *method, Role::Construct)
         }
-        Action::Call(Manner::Trapped, _, method, _, _) => is_trapped(image, *method),
+        Action::Call(CallMode::Trapped, _, method, _, _) => is_trapped(image, *method),
         Action::PushOperation(_, method) => has_role(image, *method, Role::Undo),
         _ => true,
     }

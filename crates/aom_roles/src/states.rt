@@ -60,7 +60,7 @@ pub fn same_states(one: States, other: States) -> bool
 }
 
 /// Whether the set is a part of the whole, and not empty unless that is.
-pub fn is_part(whole: States, set: States) -> bool
+pub fn is_nonempty_subset(whole: States, set: States) -> bool
     ensures { IsTrue result ↔ IsPart whole.0 set.0 }
 {
     whole.contains(set) && (!set.is_empty() || whole.is_empty())

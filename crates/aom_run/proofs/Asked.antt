@@ -7,7 +7,7 @@ use Rattle.std.proofs.lemmas.Bool.{true≢false}
 use Rattle.aom_image.specs.Image.{Image}
 use Rattle.aom_image.specs.WellFormed.{WellFormed}
 use Rattle.aom_image.specs.declared.method.Thing.{Thing}
-use Rattle.aom_rules.specs.Typing.{Typing}
+use Rattle.aom_typing_rules.specs.Typing.{Typing}
 use Rattle.aom_determinism.specs.Endings.{one_where}
 use Rattle.aom_natives.specs.Owed.{IsNew, IsOwed, times}
 use Rattle.aom_natives.specs.Slots.{ids_at, living_at}
@@ -16,8 +16,8 @@ use Rattle.aom_run.proofs.DeterminismLemmas.{for_one}
 use Rattle.aom_semantics.specs.Natives.{is_dead, is_served_by}
 use Rattle.aom_semantics.specs.Places.{Object, named}
 use Rattle.aom_semantics.specs.State.{State}
-use Rattle.aom_semantics.specs.Wanted.{Wanted}
-use Rattle.aom_machine_state.specs.Stands.{Machine as Core, StandsFor as Core_stands}
+use Rattle.aom_semantics.specs.NativeCall.{NativeCall}
+use Rattle.aom_machine_state.specs.Stands.{MachineModel as Core, Refines as Core_stands}
 use Rattle.aom_run.specs.Answers.{Asked, KeepsUnasked, MayAsk, times_after}
 use Rattle.aom_run.specs.Beside.{KeepsUnnamed, Serves}
 use Rattle.aom_run.proofs.Moving.{Went}
@@ -62,7 +62,7 @@ module _ {L : Type 0} (kept : L → List ℕ) (p : Image) (s : State)
       all_small m some = small n m (keeps.sessions.met n m (one_there (owes p s.cells n m) (let is = keeps.ids n m in omega (arith, is, some))))
 
   -- what is found well may be asked
-  pub may_ask : (w : Wanted) → FindsWell p s (Some w) → MayAsk kept slots w
+  pub may_ask : (w : NativeCall) → FindsWell p s (Some w) → MayAsk kept slots w
   may_ask y finds = grind (arith, nat_tests, lives_there, new_there, few_there, owed_there)
 
   -- ---- after the call, and the step
@@ -75,12 +75,12 @@ module _ {L : Type 0} (kept : L → List ℕ) (p : Image) (s : State)
       ≡ one_where (not (is_for n x k m) && owes p s.cells k m)
   ended n x k m = grind (arith, nat_tests)
 
-  counted_after : (asked : Option Wanted) (answer : ℤ) → FindsWell p s asked →
+  counted_after : (asked : Option NativeCall) (answer : ℤ) → FindsWell p s asked →
       (k m : ℕ) → times_after asked answer k m (one_where (owes p s.cells k m)) ≡ one_where (owes_after asked answer k m (owes p s.cells k m))
   counted_after y answer finds k m = grind (arith, nat_tests, begun, ended)
 
   -- what is kept after a call is what the state has outstanding that the step which asked it leads to
-  pub serves_after : (t : Typing) (asked : Option Wanted) (answer : ℤ) (new : List (Option L)) (u : State) →
+  pub serves_after : (t : Typing) (asked : Option NativeCall) (answer : ℤ) (new : List (Option L)) (u : State) →
       FindsWell p s asked → Asked kept slots asked answer new → Went p t s asked answer u → Serves kept p u new
   serves_after t asked answer new u finds call went = record {
     enough = (let enough = keeps.enough in let count = call.count in omega (arith, enough, count));
@@ -100,7 +100,7 @@ module _ {L : Type 0} (p : Image) (s : State) (old new : List (Option L)) where
       go y z = grind arith
 
   -- one that serves none is asked nothing
-  pub keeps_unnamed : (asked : Option Wanted) → FindsWell p s asked → KeepsUnasked old asked new → KeepsUnnamed p old new
+  pub keeps_unnamed : (asked : Option NativeCall) → FindsWell p s asked → KeepsUnasked old asked new → KeepsUnnamed p old new
   keeps_unnamed asked finds keeps = search (arith, nat_tests, is_another)
 
 pub unnamed_all : {L : Type 0} (p : Image) (slots : List (Option L)) → KeepsUnnamed p slots slots

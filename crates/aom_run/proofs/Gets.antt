@@ -2,7 +2,7 @@
 use Rattle.std.proofs.lemmas.Bool.Decides.{nat_tests}
 use Rattle.std.proofs.Common.{arith, ◌≡◌, ◌∙◌, ℕ, zero, suc, List, [], ◌∷◌, Some, refl}
 use Rattle.std.specs.Prelude.{All, slice_get}
-use Rattle.aom_run.proofs.ClassesLemmas.{all_there}
+use Rattle.aom_run.proofs.LinkConditionsLemmas.{all_there}
 use Rattle.aom_semantics.specs.World.{event_at}
 use Rattle.std.proofs.lemmas.List.Elements.{All-weaker}
 use Rattle.aom_run.specs.Calls.{EventInRange}

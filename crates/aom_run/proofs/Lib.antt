@@ -16,7 +16,7 @@ mod Resting
 mod Running
 mod Underway
 pub mod RunLemmas
-pub use Rattle.aom_classes.proofs.ClassesLemmas
+pub use Rattle.aom_link_conditions.proofs.LinkConditionsLemmas
 pub use Rattle.aom_determinism.proofs.DeterminismLemmas
 pub use Rattle.aom_image.proofs.ImageLemmas
 pub use Rattle.aom_machine.proofs.MachineLemmas

@@ -13,7 +13,7 @@ use Rattle.aom_image.specs.WellFormed.{ClassFits, KindFits, WellFormed}
 use Rattle.aom_image.specs.declared.class.ClassDecl.{ClassDecl}
 use Rattle.aom_image.specs.declared.class.ClassKind.{ClassKind}
 use Rattle.aom_image.specs.declared.method.Thing.{Thing}
-use Rattle.aom_run.proofs.ClassesLemmas.{all_there}
+use Rattle.aom_run.proofs.LinkConditionsLemmas.{all_there}
 use Rattle.aom_roles.specs.Classes.{kind_in}
 use Rattle.aom_roles.specs.Shapes.{kind_of}
 use Rattle.aom_semantics.specs.Requests.{thing_kind}

@@ -7,7 +7,7 @@ use Rattle.aom_machine_state.specs.LineBuffer.{LineBuffer}
 use Rattle.aom_run.proofs.SafetyLemmas.{commanded_kept, goes_same}
 use Rattle.aom_semantics.specs.Places.{Object, named}
 use Rattle.aom_semantics.specs.State.{Goes, State}
-use Rattle.aom_semantics.specs.World.{AnswersWell, Completes, Completion, Heard, IsBetween, Environment, Polls, Reaches, Turning, delivers, nothing_heard}
+use Rattle.aom_semantics.specs.World.{AnswersWell, Completes, Completion, Observed, IsBetween, Environment, Polls, Reaches, Turning, delivers, nothing_observed}
 use Rattle.aom_semantics.specs.World.{turned, turning, turns, written_by}
 use Rattle.aom_transcript.specs.declared.event.Event.{Event}
 use Rattle.aom_transcript.specs.declared.line.Line.{Line}
@@ -50,33 +50,33 @@ polled_same p s u n x goes = grind (arith, nat_tests, goes_same)
 -- ---- a run goes on
 
 -- what it hears, with a free name where a part makes nothing
-abbrev heard_of : Option Completion → State → Heard
-heard_of answer s = record { completion = answer; name = top s.cells }
+abbrev observed_of : Option Completion → State → Observed
+observed_of answer s = record { completion = answer; name = top s.cells }
 
 -- by a part that is the same whatever is heard
 pub turns_by : (p : Image) (outside : Environment) (from : State) (lines : List Line) (s u : State) (x : Turning) → Reaches p outside from lines s → IsBetween
-    s → ((heard : Heard) → turning outside heard s ≡ x) → AnswersWell p s x → turned p s x ≡ Goes u → Reaches p outside from (lines ++ written_by p s x) u
+    s → ((observed : Observed) → turning outside observed s ≡ x) → AnswersWell p s x → turned p s x ≡ Goes u → Reaches p outside from (lines ++ written_by p s x) u
 turns_by p outside from lines s u x r between is owed goes =
-    let heard = heard_of None s in
-    subst (λ k. Reaches p outside from (lines ++ written_by p s k) u) (is nothing_heard)
-    (turns heard r between (record { completion = subst (λ k. AnswersWell p s k) (sym (is heard)) owed; name = above s.cells (top s.cells) (omega arith) })
-    (ap (turned p s) (is heard) ∙ goes))
+    let observed = observed_of None s in
+    subst (λ k. Reaches p outside from (lines ++ written_by p s k) u) (is nothing_observed)
+    (turns observed r between (record { completion = subst (λ k. AnswersWell p s k) (sym (is observed)) owed; name = above s.cells (top s.cells) (omega arith) })
+    (ap (turned p s) (is observed) ∙ goes))
 
 -- by an event, with that name for what is sent
 pub delivers_by : (p : Image) (outside : Environment) (from : State) (lines : List Line) (s u : State) (event : Event) (name : ℕ)
-    → Reaches p outside from lines s → IsBetween s → ((heard : Heard) → turning outside heard s ≡ delivers outside heard.name s event) → named s.cells name
+    → Reaches p outside from lines s → IsBetween s → ((observed : Observed) → turning outside observed s ≡ delivers outside observed.name s event) → named s.cells name
     ≡ None → turned p s (delivers outside name s event) ≡ Goes u → Reaches p outside from (lines ++ written_by p s (delivers outside name s event)) u
 delivers_by p outside from lines s u event name r between is free goes =
-    let heard : Heard = record { completion = None; name = name } in
-    subst (λ ls. Reaches p outside from (lines ++ ls) u) (ap (written_by p s) (is nothing_heard) ∙ lines_alike p outside 0 name s event)
-    (turns heard r between (record { completion = grind (arith, nat_tests); name = free }) (ap (turned p s) (is heard) ∙ goes))
+    let observed : Observed = record { completion = None; name = name } in
+    subst (λ ls. Reaches p outside from (lines ++ ls) u) (ap (written_by p s) (is nothing_observed) ∙ lines_alike p outside 0 name s event)
+    (turns observed r between (record { completion = grind (arith, nat_tests); name = free }) (ap (turned p s) (is observed) ∙ goes))
 
 -- by a poll, which writes nothing
 pub polls_by : (p : Image) (outside : Environment) (from s u : State) (n : ℕ) (answer : Option Completion)
-    → Reaches p outside from [] s → IsBetween s → ((heard : Heard) → turning outside heard s ≡ Polls n heard.completion) →
+    → Reaches p outside from [] s → IsBetween s → ((observed : Observed) → turning outside observed s ≡ Polls n observed.completion) →
     AnswersWell p s (Polls n answer) → turned p s (Polls n answer) ≡ Goes u → Reaches p outside from [] u
 polls_by p outside from s u n answer r between is owed goes =
-    let heard = heard_of answer s in
-    subst (λ k. Reaches p outside from (written_by p s k) u) (is nothing_heard)
-    (turns heard r between (record { completion = subst (λ k. AnswersWell p s k) (sym (is heard)) owed; name = above s.cells (top s.cells) (omega arith) })
-    (ap (turned p s) (is heard) ∙ goes))
+    let observed = observed_of answer s in
+    subst (λ k. Reaches p outside from (written_by p s k) u) (is nothing_observed)
+    (turns observed r between (record { completion = subst (λ k. AnswersWell p s k) (sym (is observed)) owed; name = above s.cells (top s.cells) (omega arith) })
+    (ap (turned p s) (is observed) ∙ goes))

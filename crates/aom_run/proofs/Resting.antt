@@ -8,23 +8,23 @@ use Rattle.aom_machine.specs.Steps.{progress}
 use Rattle.aom_image.specs.declared.method.Thing.{Thing}
 use Rattle.aom_image.specs.declared.method.Thing.TheVariants.{Message, Object as An_object_of}
 use Rattle.aom_machine_state.specs.LineBuffer.{LineBuffer}
-use Rattle.aom_run.specs.Calls.{NoneIsDue, Picked, Stands, StandsFor, Takes, TakesAll, natives_of}
-use Rattle.aom_run.specs.declared.machine.Machine.{Machine}
+use Rattle.aom_run.specs.Calls.{NoneIsDue, Picked, Stands, RefinesWithNatives, Takes, TakesAll, natives_of}
+use Rattle.aom_run.specs.declared.machine.HostedMachine.{HostedMachine}
 use Rattle.aom_run.proofs.SafetyLemmas.{dispatches_are_counted, goes_same}
 use Rattle.aom_semantics.specs.Lines.{serve_line}
 use Rattle.aom_semantics.specs.Places.{Asked, Object, service_of}
 use Rattle.aom_semantics.specs.Servers.{is_server}
 use Rattle.aom_semantics.specs.State.{Goes, State}
 use Rattle.aom_semantics.specs.World.{AnswersWell, Cuts, IsBetween, Environment, Passes, Picks, Reaches, Timed, Turning, Waits, begins, due_of, event_at}
-use Rattle.aom_semantics.specs.World.{first_due, first_living, has_signal, Heard, nearer, next_event, next_native, next_time, nothing_heard, pick_line}
+use Rattle.aom_semantics.specs.World.{first_due, first_living, has_signal, Observed, nearer, next_event, next_native, next_time, nothing_observed, pick_line}
 use Rattle.aom_semantics.specs.World.{run_line, time_of, turned, turning, written_by}
 use Rattle.aom_transcript.specs.declared.line.Ending.TheVariants.{Limit, Waiting}
 use Rattle.aom_transcript.specs.declared.event.TimedEvent.{TimedEvent}
 use Rattle.aom_run.proofs.DeterminismLemmas.{picked_pays}
-use Rattle.aom_run.proofs.Between.{none_now, settles_both, stands_settled, tells_after, turned_far}
+use Rattle.aom_run.proofs.Between.{none_now, settles_both, stands_settled, reports_after, turned_far}
 use Rattle.aom_run.proofs.Parts.{no_lines, still_between, turns_by}
 use Rattle.aom_run.proofs.Turnings.{NoneCome, cuts_so, passes_so, picks_so, waits_so}
-use Rattle.aom_run.specs.Turns.{AllPolled, IsLate, NoneHasCome, Settles, TakesTurns, TellsEnd, hearing, to_come}
+use Rattle.aom_run.specs.Turns.{AllPolled, IsLate, NoneHasCome, Settles, TakesTurns, ReportsEnd, observing, to_come}
 
 -- the nearer of two times is one of them
 nearer_is : (a b : Option ℕ) (time : ℕ) → nearer a b ≡ Some time → ((x : ℕ) × (a ≡ Some x) × (x ≤ time)) ⊎ ((x : ℕ) × (b ≡ Some x) × (x ≤ time))
@@ -50,19 +50,19 @@ module _ {X : Type 0} {B : X → Type 0} where
   -- ---- turns that dispatch nothing
 
   -- there may be more dispatches
-  abbrev pub Below : Machine X B → ℕ → Type 0
+  abbrev pub Below : HostedMachine X B → ℕ → Type 0
   Below m limit = m.core.parts.rest.dispatches < limit
 
-  below_so : (m : Machine X B) (limit : ℕ) (s : State) → StandsFor m s → Below m limit → s.rest.dispatches < limit
+  below_so : (m : HostedMachine X B) (limit : ℕ) (s : State) → RefinesWithNatives m s → Below m limit → s.rest.dispatches < limit
   below_so m limit s stands below = subst (λ r. r.dispatches < limit) stands.stands.agrees.rest below
 
   -- an event is told by a line
-  pub ends_told : (old new : Machine X B) (events : List TimedEvent) (refused : List ℕ) (limit : ℕ) (told now : LineBuffer) →
-      Below old limit → TellsEnd events old told now new → TakesTurns old (hearing refused limit (natives_of old) events) None told now new
-  ends_told old new events refused limit told now below tells s stands = grind (arith, nat_tests, below_so old limit s stands below)
+  pub ends_reported : (old new : HostedMachine X B) (events : List TimedEvent) (refused : List ℕ) (limit : ℕ) (reported now : LineBuffer) →
+      Below old limit → ReportsEnd events old reported now new → TakesTurns old (observing refused limit (natives_of old) events) None reported now new
+  ends_reported old new events refused limit reported now below reports s stands = grind (arith, nat_tests, below_so old limit s stands below)
 
   -- the machine is between dispatches, there may be more of them, nothing is due, nothing has come, and all natives are polled
-  pub record Rests (old : Machine X B) (events : List TimedEvent) (limit : ℕ) (m : Machine X B) : Type 0 where
+  pub record Rests (old : HostedMachine X B) (events : List TimedEvent) (limit : ℕ) (m : HostedMachine X B) : Type 0 where
     pub below : Below old limit
     pub far : Settles events old m
     pub stands : Stands m
@@ -74,27 +74,27 @@ module _ {X : Type 0} {B : X → Type 0} where
     pub natives : natives_of m ≡ natives_of old
 
   -- where nothing signals nothing changes
-  pub none_picked : {events : List TimedEvent} {limit : ℕ} (old m new : Machine X B) (told now : LineBuffer) (result : Bool) → Rests old events limit m → result ≡ false → Picked m result told now new
-      → Rests old events limit new × (now ≡ told) × ((s : State) → StandsFor new s → has_signal s.cells ≡ false) × (new ≡ m)
-  none_picked {events} {limit} old m new told now result rests none picked =
-      let it = subst (λ b. Picked m b told now new) none picked in
-      (subst (λ x. Rests old events limit x) (sym it.0) rests, it.1, λ s stands. it.2 s (subst (λ x. StandsFor x s) it.0 stands), it.0)
+  pub none_picked : {events : List TimedEvent} {limit : ℕ} (old m new : HostedMachine X B) (reported now : LineBuffer) (result : Bool) → Rests old events limit m → result ≡ false → Picked m result reported now new
+      → Rests old events limit new × (now ≡ reported) × ((s : State) → RefinesWithNatives new s → has_signal s.cells ≡ false) × (new ≡ m)
+  none_picked {events} {limit} old m new reported now result rests none picked =
+      let it = subst (λ b. Picked m b reported now new) none picked in
+      (subst (λ x. Rests old events limit x) (sym it.0) rests, it.1, λ s stands. it.2 s (subst (λ x. RefinesWithNatives x s) it.0 stands), it.0)
 
-  module _ (old m : Machine X B) (events : List TimedEvent) (refused : List ℕ) (limit : ℕ) (rests : Rests old events limit m) where
+  module _ (old m : HostedMachine X B) (events : List TimedEvent) (refused : List ℕ) (limit : ℕ) (rests : Rests old events limit m) where
     abbrev outside : Environment
-    outside = hearing refused limit (natives_of old) events
+    outside = observing refused limit (natives_of old) events
 
-    still_below : (s : State) (stands : StandsFor old s) → (rests.far s stands).0.rest.dispatches < limit
+    still_below : (s : State) (stands : RefinesWithNatives old s) → (rests.far s stands).0.rest.dispatches < limit
     still_below s stands = subst (λ n. n < limit) (sym (rests.far s stands).2) (below_so old limit s stands rests.below)
 
-    early : (s : State) → StandsFor m s → NoneCome outside s
+    early : (s : State) → RefinesWithNatives m s → NoneCome outside s
     early s stands = none_now events refused limit m rests.none_come s stands
 
-    all_polled : (s : State) → StandsFor m s → next_native outside s ≡ None
+    all_polled : (s : State) → RefinesWithNatives m s → next_native outside s ≡ None
     all_polled s stands = ap (λ n. first_living s.killed (n - s.rest.polled) s.rest.polled) (sym rests.natives) ∙ rests.polled s stands
 
     -- a part of a turn
-    one_part : (s : State) (stands : StandsFor old s) (x : Turning) (u : State) → ((heard : Heard) → turning outside heard (rests.far s stands).0 ≡ x) →
+    one_part : (s : State) (stands : RefinesWithNatives old s) (x : Turning) (u : State) → ((observed : Observed) → turning outside observed (rests.far s stands).0 ≡ x) →
         AnswersWell old.core.image (rests.far s stands).0 x → IsBetween (rests.far s stands).0
         → turned m.core.image (rests.far s stands).0 x ≡ Goes u → Reaches old.core.image outside s (written_by old.core.image (rests.far s stands).0 x) u
     one_part s stands x u is owed between goes =
@@ -117,35 +117,35 @@ module _ {X : Type 0} {B : X → Type 0} where
         go x = grind (arith, nat_tests, one_serve, one_run)
 
     -- an object is dispatched, or a server
-    pub dispatches_one : (told now : LineBuffer) (new : Machine X B) → Picked m true told now new → TakesTurns old outside None told now new
-    dispatches_one told now new picked s stands =
+    pub dispatches_one : (reported now : LineBuffer) (new : HostedMachine X B) → Picked m true reported now new → TakesTurns old outside None reported now new
+    dispatches_one reported now new picked s stands =
         let w = rests.far s stands in
         let x = picked w.0 w.4 in
         let t = x.3 in
         let is = picks_so outside w.0 (still_below s stands) (rests.none_due w.0 w.4.stands) (early w.0 w.4) (all_polled w.0 w.4) x.0 x.2 x.1 in
-        let same = dispatches_are_counted.turns m.core.image outside nothing_heard w.0 t.state (ap (turned m.core.image w.0) (is nothing_heard) ∙ t.goes) in (
-          pick_line old.core.image w.0 x.0.seat.object,
+        let same = dispatches_are_counted.turns m.core.image outside nothing_observed w.0 t.state (ap (turned m.core.image w.0) (is nothing_observed) ∙ t.goes) in (
+          pick_line old.core.image w.0 x.0.owned_object.object,
           t.state,
-          one_part s stands (Picks x.0.seat) t.state is tt t.between t.goes,
-          t.lines ∙ ap (λ q. record told { lines = told.lines ++ pick_line q w.0 x.0.seat.object }) rests.image,
-          (one_line x.0.seat.object w.0, below_so old limit s stands rests.below, same ∙ w.2, inl (picked_pays m.core.image w.0 t.state x.0.seat t.goes)),
+          one_part s stands (Picks x.0.owned_object) t.state is tt t.between t.goes,
+          t.lines ∙ ap (λ q. record reported { lines = reported.lines ++ pick_line q w.0 x.0.owned_object.object }) rests.image,
+          (one_line x.0.owned_object.object w.0, below_so old limit s stands rests.below, same ∙ w.2, inl (picked_pays m.core.image w.0 t.state x.0.owned_object t.goes)),
           t.stands,
         )
 
-    module _ (quiet : (s : State) → StandsFor m s → has_signal s.cells ≡ false) (next : Option ℕ)
-        (told_so : (s : State) → StandsFor m s → next ≡ next_time outside s) where
+    module _ (quiet : (s : State) → RefinesWithNatives m s → has_signal s.cells ≡ false) (next : Option ℕ)
+        (reported_so : (s : State) → RefinesWithNatives m s → next ≡ next_time outside s) where
       -- nothing comes any more, and the run is over
-      pub waits_on : next ≡ None → (told : LineBuffer) (new : Machine X B) → TakesAll m Waits new → TakesTurns old outside (Some Waiting) told told new
-      waits_on e told new takes s stands =
+      pub waits_on : next ≡ None → (reported : LineBuffer) (new : HostedMachine X B) → TakesAll m Waits new → TakesTurns old outside (Some Waiting) reported reported new
+      waits_on e reported new takes s stands =
           let w = rests.far s stands in
-          let t = takes told w.0 w.4 in
+          let t = takes reported w.0 w.4 in
           let is = waits_so outside w.0 (still_below s stands) (rests.none_due w.0 w.4.stands) (early w.0 w.4) (all_polled w.0 w.4) (quiet w.0 w.4)
-          (sym (told_so w.0 w.4) ∙ e) in
+          (sym (reported_so w.0 w.4) ∙ e) in
           ([], t.state, one_part s stands Waits t.state is tt t.between t.goes, t.lines, (refl, ap (λ (v : State). v.rest.ended) (sym (goes_same _ t.state t.goes))), t.stands)
 
       -- time passes
-      module _ (time : ℕ) (e : next ≡ Some time) (passed : Machine X B) (again : passed.core.image ≡ m.core.image) (takes : TakesAll m (Passes time) passed) where
-        at_time : (s : State) (stands : StandsFor m s) → Takes m s (Passes time) no_lines no_lines passed
+      module _ (time : ℕ) (e : next ≡ Some time) (passed : HostedMachine X B) (again : passed.core.image ≡ m.core.image) (takes : TakesAll m (Passes time) passed) where
+        at_time : (s : State) (stands : RefinesWithNatives m s) → Takes m s (Passes time) no_lines no_lines passed
         at_time s stands = takes no_lines s stands
 
         pub passes_on : Settles events old passed
@@ -153,11 +153,11 @@ module _ {X : Type 0} {B : X → Type 0} where
             let w = rests.far s stands in
             let t = at_time w.0 w.4 in
             let on : (refused : List ℕ) (limit : ℕ) → s.rest.dispatches < limit →
-            Reaches old.core.image (hearing refused limit (natives_of old) events) s [] t.state = λ others most below.
+            Reaches old.core.image (observing refused limit (natives_of old) events) s [] t.state = λ others most below.
             let still : w.0.rest.dispatches < most = subst (λ n. n < most) (sym w.2) below in
-            let is = passes_so (hearing others most (natives_of old) events) w.0 still
-            (rests.none_due w.0 w.4.stands) (early w.0 w.4) (all_polled w.0 w.4) (quiet w.0 w.4) time (sym (told_so w.0 w.4) ∙ e) in
-            turns_by old.core.image (hearing others most (natives_of old) events) s [] w.0 t.state
+            let is = passes_so (observing others most (natives_of old) events) w.0 still
+            (rests.none_due w.0 w.4.stands) (early w.0 w.4) (all_polled w.0 w.4) (quiet w.0 w.4) time (sym (reported_so w.0 w.4) ∙ e) in
+            turns_by old.core.image (observing others most (natives_of old) events) s [] w.0 t.state
             (Passes time) (w.1 others most below) t.between is tt (subst (λ q. turned q w.0 (Passes time) ≡ Goes t.state) rests.image t.goes) in
             let same = sym (goes_same _ t.state t.goes) in
             let before = w.3 in
@@ -176,7 +176,7 @@ module _ {X : Type 0} {B : X → Type 0} where
 
         -- what it passes to has come then
         pub passed_late : IsLate events passed
-        passed_late = go (nearer_is (due_of (first_due s.cells)) (time_of (next_event outside s)) time (sym (told_so s rests.stands.1) ∙ e))
+        passed_late = go (nearer_is (due_of (first_due s.cells)) (time_of (next_event outside s)) time (sym (reported_so s rests.stands.1) ∙ e))
           where
             s : State
             s = rests.stands.0
@@ -205,11 +205,11 @@ module _ {X : Type 0} {B : X → Type 0} where
                 let clock = ap (λ r. r.clock) rest in
                 inr (x.0, ap (λ r. event_at events r.delivered) rest ∙ x.1, omega (arith, at, by, clock))
 
-        module _ (all : natives_of passed ≡ natives_of m) (new : Machine X B) where
+        module _ (all : natives_of passed ≡ natives_of m) (new : HostedMachine X B) where
           -- an event is told by a line then
-          pub tells_on : (told now : LineBuffer) → TellsEnd events passed told now new → TakesTurns old outside None told now new
-          tells_on told now tells = ends_told old new events refused limit told now rests.below
-              (tells_after events old passed (again ∙ rests.image) (all ∙ rests.natives) passes_on told now new tells)
+          pub reports_on : (reported now : LineBuffer) → ReportsEnd events passed reported now new → TakesTurns old outside None reported now new
+          reports_on reported now reports = ends_reported old new events refused limit reported now rests.below
+              (reports_after events old passed (again ∙ rests.image) (all ∙ rests.natives) passes_on reported now new reports)
 
           -- or all that is due then is settled
           pub rests_on : Settles events passed new → progress new.core ≡ Turned → NoneIsDue new →
@@ -228,7 +228,7 @@ module _ {X : Type 0} {B : X → Type 0} where
 
       -- time does not go back
       pub no_earlier : (time : ℕ) → next ≡ Some time → m.core.parts.rest.clock ≤ time
-      no_earlier time e = go (nearest (due_of (first_due s.cells)) (time_of (next_event outside s)) time (sym (told_so s rests.stands.1) ∙ e))
+      no_earlier time e = go (nearest (due_of (first_due s.cells)) (time_of (next_event outside s)) time (sym (reported_so s rests.stands.1) ∙ e))
         where
           s : State
           s = rests.stands.0
@@ -253,9 +253,9 @@ module _ {X : Type 0} {B : X → Type 0} where
 
   -- ---- the limit
 
-  pub limit_cuts : (old : Machine X B) (outside : Environment) → outside.limit ≤ old.core.parts.rest.dispatches →
-      (told : LineBuffer) (new : Machine X B) → TakesAll old Cuts new → TakesTurns old outside (Some Limit) told told new
-  limit_cuts old outside at told new takes s stands =
-      let t = takes told s stands in
+  pub limit_cuts : (old : HostedMachine X B) (outside : Environment) → outside.limit ≤ old.core.parts.rest.dispatches →
+      (reported : LineBuffer) (new : HostedMachine X B) → TakesAll old Cuts new → TakesTurns old outside (Some Limit) reported reported new
+  limit_cuts old outside at reported new takes s stands =
+      let t = takes reported s stands in
       let is = cuts_so outside s (subst (λ r. outside.limit ≤ r.dispatches) stands.stands.agrees.rest at) in
       ([], t.state, turns_by old.core.image outside s [] s t.state Cuts begins t.between is tt t.goes, t.lines, (refl, ap (λ (v : State). v.rest.ended) (sym (goes_same _ t.state t.goes))), t.stands)

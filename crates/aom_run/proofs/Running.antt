@@ -19,18 +19,18 @@ use Rattle.aom_run.specs.declared.outcome.Outcome.TheVariants.{WriteFault}
 use Rattle.aom_machine_state.specs.declared.progress.Progress.{Progress}
 use Rattle.aom_machine_state.specs.declared.progress.Progress.TheVariants as progresses
 use Rattle.aom_machine.specs.Steps.{progress as reached}
-use Rattle.aom_run.specs.Calls.{Stands, StandsFor, natives_of}
-use Rattle.aom_run.specs.declared.machine.Machine.{Machine}
+use Rattle.aom_run.specs.Calls.{Stands, RefinesWithNatives, natives_of}
+use Rattle.aom_run.specs.declared.machine.HostedMachine.{HostedMachine}
 use Rattle.aom_frames.specs.declared.task.Task.{Task as Machine_task}
-use Rattle.aom_progress.specs.Payers.{payer}
+use Rattle.aom_termination.specs.BudgetOwners.{budget_owner}
 use Rattle.aom_machine_state.specs.Progress.{progress_by, progress_of}
 use Rattle.aom_run.specs.Outcomes.{outcome_of}
 use Rattle.aom_run.proofs.MachineLemmas.{is_as_far}
-use Rattle.aom_run.specs.Runs.{CutOff, Ended, Moving, Sent, Told, CutShort, Ran}
+use Rattle.aom_run.specs.Runs.{CutOff, Ended, Moving, Sent, Reported, CutShort, Ran}
 use Rattle.aom_transcript.specs.Sinks.{after}
 use Rattle.aom_run.proofs.DeterminismLemmas.{runs_can_end}
 use Rattle.aom_determinism.specs.Endings.{CanEnd, one_where}
-use Rattle.aom_run.specs.Turns.{TakesTurns, hearing, to_come}
+use Rattle.aom_run.specs.Turns.{TakesTurns, observing, to_come}
 use Rattle.aom_run.proofs.Spared.{idle_stays, moving_spares}
 use Rattle.aom_run.proofs.Reaching.{reaches_both, reaches_then}
 use Rattle.aom_run.proofs.TranscriptLemmas.{cut_short, after_both, after_none, text_by_both, cut_next}
@@ -84,16 +84,16 @@ same_outcome d e is = grind arith
 
 module _ {X : Type 0} {B : X → Type 0} where
   -- the machine stands for a state that a run comes to; all its lines are out but the last, which are told and not out yet
-  pub record SoFar (reads : Line → List ℕ) (p : Image) (outside : Environment) (before now : Option (List ℕ)) (told : List Line) (m : Machine X B) : Type 0 where
+  pub record SoFar (reads : Line → List ℕ) (p : Image) (outside : Environment) (before now : Option (List ℕ)) (reported : List Line) (m : HostedMachine X B) : Type 0 where
     pub lines : List Line
     pub state : State
-    pub reaches : Reaches p outside (boot_state p) (lines ++ told) state
-    pub stands : StandsFor m state
+    pub reaches : Reaches p outside (boot_state p) (lines ++ reported) state
+    pub stands : RefinesWithNatives m state
     pub out : now ≡ after before (text_by reads lines)
 
-  pub starts : {reads : Line → List ℕ} (outside : Environment) (out : Option (List ℕ)) (m : Machine X B) (told : List Line) →
-      told ≡ [] → StandsFor m (boot_state m.core.image) → SoFar reads m.core.image outside out out told m
-  starts {reads} outside out m told none fresh = record {
+  pub starts : {reads : Line → List ℕ} (outside : Environment) (out : Option (List ℕ)) (m : HostedMachine X B) (reported : List Line) →
+      reported ≡ [] → RefinesWithNatives m (boot_state m.core.image) → SoFar reads m.core.image outside out out reported m
+  starts {reads} outside out m reported none fresh = record {
     lines = [];
     state = boot_state _;
     reaches = subst (λ ls. Reaches m.core.image outside (boot_state m.core.image) ls (boot_state m.core.image)) (sym none) begins;
@@ -103,27 +103,27 @@ module _ {X : Type 0} {B : X → Type 0} where
 
   -- a run that has come to a state that the machine stands for can be brought to an end
   completed : (p : Image) (outside : Environment) → outside.limit ≤ 2 ^ 64 - 1 →
-      (lines : List Line) (s : State) (m : Machine X B) → m.core.image ≡ p → Reaches p outside (boot_state p) lines s → StandsFor m s → CanEnd p outside lines
+      (lines : List Line) (s : State) (m : HostedMachine X B) → m.core.image ≡ p → Reaches p outside (boot_state p) lines s → RefinesWithNatives m s → CanEnd p outside lines
   completed p outside few lines s m image r stands = grind (arith, nat_tests, lines, runs_can_end)
 
   -- ---- a run goes on
 
   module _ {reads : Line → List ℕ} (p : Image) (outside : Environment) (before mid now : Option (List ℕ))
-      (m new : Machine X B) (told buffer : LineBuffer) (far : SoFar reads p outside before mid told.lines m) (image : m.core.image ≡ p) where
-    module _ (same : told.refused ≡ outside.refused) where
-      more : (lines : List Line) (u : State) → Moving m.core.image told.refused far.state lines u →
-          Reaches p outside (boot_state p) ((far.lines ++ told.lines) ++ lines) u
+      (m new : HostedMachine X B) (reported buffer : LineBuffer) (far : SoFar reads p outside before mid reported.lines m) (image : m.core.image ≡ p) where
+    module _ (same : reported.refused ≡ outside.refused) where
+      more : (lines : List Line) (u : State) → Moving m.core.image reported.refused far.state lines u →
+          Reaches p outside (boot_state p) ((far.lines ++ reported.lines) ++ lines) u
       more lines u moving = grind (arith, nat_tests, reaches_then, lines)
 
-      text : (lines : List Line) → text_by reads far.lines ++ text_by reads (told.lines ++ lines) ≡ text_by reads ((far.lines ++ told.lines) ++ lines)
-      text lines = sym (text_by_both reads far.lines (told.lines ++ lines)) ∙ ap (text_by reads) (sym (append_assoc far.lines told.lines lines))
+      text : (lines : List Line) → text_by reads far.lines ++ text_by reads (reported.lines ++ lines) ≡ text_by reads ((far.lines ++ reported.lines) ++ lines)
+      text lines = sym (text_by_both reads far.lines (reported.lines ++ lines)) ∙ ap (text_by reads) (sym (append_assoc far.lines reported.lines lines))
 
       -- all that was told is out, and more
-      pub sent_on : (progress : Progress) → Sent reads m progress told buffer mid now new → SoFar reads p outside before now buffer.lines new
+      pub sent_on : (progress : Progress) → Sent reads m progress reported buffer mid now new → SoFar reads p outside before now buffer.lines new
       sent_on progress sent =
           let x = sent far.state far.stands in
           let none : buffer.lines ≡ [] = ap (λ (t : LineBuffer). t.lines) x.3 in
-          let lines = (far.lines ++ told.lines) ++ x.0 in
+          let lines = (far.lines ++ reported.lines) ++ x.0 in
           record {
             lines = lines;
             state = x.1;
@@ -134,29 +134,29 @@ module _ {X : Type 0} {B : X → Type 0} where
           }
 
       -- the sink failed
-      pub cut : outside.limit ≤ 2 ^ 64 - 1 → new.core.image ≡ p → CutOff reads m told mid now new → CutShort reads p outside before now
+      pub cut : outside.limit ≤ 2 ^ 64 - 1 → new.core.image ≡ p → CutOff reads m reported mid now new → CutShort reads p outside before now
       cut few again cut_off =
           let x = cut_off far.state far.stands in
-          let b = text_by reads (told.lines ++ x.0) in
-          let all = completed p outside few ((far.lines ++ told.lines) ++ x.0) x.1 new again (more x.0 x.1 x.2) x.4 in
-          cut_of reads p outside before now ((far.lines ++ told.lines) ++ x.0) all (length (text_by reads far.lines) + x.3.0)
+          let b = text_by reads (reported.lines ++ x.0) in
+          let all = completed p outside few ((far.lines ++ reported.lines) ++ x.0) x.1 new again (more x.0 x.1 x.2) x.4 in
+          cut_of reads p outside before now ((far.lines ++ reported.lines) ++ x.0) all (length (text_by reads far.lines) + x.3.0)
           (x.3.1 ∙ ap (λ o. after o (take x.3.0 b)) far.out ∙ cut_next before (text_by reads far.lines) b x.3.0
           ∙ ap (λ t. after before (take (length (text_by reads far.lines) + x.3.0) t)) (text x.0))
 
     -- turns
-    module _ (none : told.lines ≡ []) where
+    module _ (none : reported.lines ≡ []) where
       bare : (lines : List Line) (u : State) → Reaches m.core.image outside far.state lines u → Reaches p outside (boot_state p) (far.lines ++ lines) u
       bare lines u turns = reaches_both p outside (boot_state p) far.lines far.state lines u
           (subst (λ ls. Reaches p outside (boot_state p) ls far.state) (append-nil far.lines) (grind arith))
           (subst (λ q. Reaches q outside far.state lines u) image turns)
 
-      pub turned_on : TakesTurns m outside None told buffer new → SoFar reads p outside before mid buffer.lines new
+      pub turned_on : TakesTurns m outside None reported buffer new → SoFar reads p outside before mid buffer.lines new
       turned_on takes =
           let x = takes far.state far.stands in
           let is : buffer.lines ≡ x.0 = ap (λ (t : LineBuffer). t.lines) x.3 ∙ ap (λ ls. ls ++ x.0) none in
           record { lines = far.lines; state = x.1; reaches = grind (arith, nat_tests, bare x.0 x.1 x.2); stands = x.5; out = far.out }
 
-      pub turned_end : (ending : Ending) → TakesTurns m outside (Some ending) told buffer new → Ended reads p outside ending before mid new
+      pub turned_end : (ending : Ending) → TakesTurns m outside (Some ending) reported buffer new → Ended reads p outside ending before mid new
       turned_end ending takes =
           let x = takes far.state far.stands in
           let silent : far.lines ++ x.0 ≡ far.lines = ap (λ ls. far.lines ++ ls) x.4.0 ∙ append-nil far.lines in
@@ -176,9 +176,9 @@ module _ {X : Type 0} {B : X → Type 0} where
       }
 
   -- what a dispatch leaves
-  module _ (reads : Line → List ℕ) (m new : Machine X B) (told now : LineBuffer)
-      (progress : Progress) (before out : Option (List ℕ)) (stands : Stands m) (sent : Sent reads m progress told now before out new) where
-    pub sent_buffer : now ≡ record told { lines = [] }
+  module _ (reads : Line → List ℕ) (m new : HostedMachine X B) (reported now : LineBuffer)
+      (progress : Progress) (before out : Option (List ℕ)) (stands : Stands m) (sent : Sent reads m progress reported now before out new) where
+    pub sent_buffer : now ≡ record reported { lines = [] }
     sent_buffer = (sent stands.0 stands.1).3
 
     pub sent_far : progress ≡ reached new.core
@@ -188,23 +188,23 @@ module _ {X : Type 0} {B : X → Type 0} where
     sent_rests = (sent stands.0 stands.1).6
 
   -- and turns
-  module _ (m new : Machine X B) (outside : Environment) (told now : LineBuffer) (stands : Stands m) (takes : TakesTurns m outside None told now new) where
+  module _ (m new : HostedMachine X B) (outside : Environment) (reported now : LineBuffer) (stands : Stands m) (takes : TakesTurns m outside None reported now new) where
     pub turned_stands : Stands new
     turned_stands = let x = takes stands.0 stands.1 in (x.1, x.5)
 
-    pub turned_few : told.lines ≡ [] → length now.lines ≤ 1
+    pub turned_few : reported.lines ≡ [] → length now.lines ≤ 1
     turned_few none = grind (arith, nat_tests)
 
-    pub turned_same : now ≡ record told { lines = now.lines }
-    turned_same = let is = (takes stands.0 stands.1).3 in is ∙ ap (λ ls. record told { lines = ls }) (sym (ap (λ (t : LineBuffer). t.lines) is))
+    pub turned_same : now ≡ record reported { lines = now.lines }
+    turned_same = let is = (takes stands.0 stands.1).3 in is ∙ ap (λ ls. record reported { lines = ls }) (sym (ap (λ (t : LineBuffer). t.lines) is))
 
-  abbrev pub rounds : ℕ → Machine X B → ℕ
+  abbrev pub rounds : ℕ → HostedMachine X B → ℕ
   rounds limit m = rounds_by (limit - m.core.parts.rest.dispatches) m.core.parts.rest.ended
 
   -- each dispatch of an object is one of them
-  fewer_by : (p : Image) (refused : List ℕ) (limit : ℕ) → limit ≤ 2 ^ 64 - 1 → (m new : Machine X B) (s u v : State) (lines : List Line) (progress : Progress) →
-      StandsFor m s → StandsFor new v → reached m.core ≡ progresses.Turned → s.rest.dispatches < limit → u.rest.dispatches ≡ s.rest.dispatches →
-      is_some (payer u.tasks) ≡ true → Moving p refused u lines v → progress ≡ progress_of v → progress ≢ progresses.Running → rounds limit new < rounds limit m
+  fewer_by : (p : Image) (refused : List ℕ) (limit : ℕ) → limit ≤ 2 ^ 64 - 1 → (m new : HostedMachine X B) (s u v : State) (lines : List Line) (progress : Progress) →
+      RefinesWithNatives m s → RefinesWithNatives new v → reached m.core ≡ progresses.Turned → s.rest.dispatches < limit → u.rest.dispatches ≡ s.rest.dispatches →
+      is_some (budget_owner u.tasks) ≡ true → Moving p refused u lines v → progress ≡ progress_of v → progress ≢ progresses.Running → rounds limit new < rounds limit m
   fewer_by p refused limit few m new s u v lines progress stands then_stands between below same paid moving far rests = go v.rest.ended refl
     where
       was : rounds limit m ≡ suc (limit - s.rest.dispatches)
@@ -217,75 +217,75 @@ module _ {X : Type 0} {B : X → Type 0} where
       go (Some ending) ended = omega (arith, was, is (Some ending) ended)
       go None going =
           let none : v.tasks ≡ [] = nothing_left v.tasks (λ running. rests (far ∙ ap (λ e. progress_by e v.tasks) going ∙ running)) in
-          let bare = ap (λ ts. one_where (is_some (payer ts))) none in
+          let bare = ap (λ ts. one_where (is_some (budget_owner ts))) none in
           let one = ap one_where paid in
           let kept = moving_spares p limit few refused u lines v moving in
           omega (arith, was, is None going, bare, one, kept, same, below)
 
   -- how many dispatches there may be yet, and then how many events are to come
-  abbrev pub left : List TimedEvent → ℕ → Machine X B → ℕ
+  abbrev pub left : List TimedEvent → ℕ → HostedMachine X B → ℕ
   left events limit m = rounds limit m * suc (length events) + to_come events m
 
   -- an event that is told by a line leaves as many dispatches, and fewer events
-  fewer_to_come : (events : List TimedEvent) (limit : ℕ) (m new : Machine X B) (s u v : State) →
-      StandsFor m s → StandsFor new v → v ≡ u → reached m.core ≡ progresses.Turned → u.rest.dispatches ≡ s.rest.dispatches
+  fewer_to_come : (events : List TimedEvent) (limit : ℕ) (m new : HostedMachine X B) (s u v : State) →
+      RefinesWithNatives m s → RefinesWithNatives new v → v ≡ u → reached m.core ≡ progresses.Turned → u.rest.dispatches ≡ s.rest.dispatches
       → u.rest.ended ≡ None → length events - u.rest.delivered < length events - s.rest.delivered → left events limit new < left events limit m
   fewer_to_come events limit m new s u v stands then_stands none between same going fewer =
       grind (arith, nat_tests, still_open m.core.parts.rest.ended m.core.parts.stack.tasks between)
 
-  pub fewer_left_by : (reads : Line → List ℕ) (outside : Environment) → outside.limit ≤ 2 ^ 64 - 1 → (m mid new : Machine X B) (told buffer now : LineBuffer)
-      (progress : Progress) (before out : Option (List ℕ)) → Stands m → reached m.core ≡ progresses.Turned → TakesTurns m outside None told buffer mid →
+  pub fewer_left_by : (reads : Line → List ℕ) (outside : Environment) → outside.limit ≤ 2 ^ 64 - 1 → (m mid new : HostedMachine X B) (reported buffer now : LineBuffer)
+      (progress : Progress) (before out : Option (List ℕ)) → Stands m → reached m.core ≡ progresses.Turned → TakesTurns m outside None reported buffer mid →
       Sent reads mid progress buffer now before out new → left outside.events outside.limit new < left outside.events outside.limit m
-  fewer_left_by reads outside few m mid new told buffer now progress before out stands between takes sent =
+  fewer_left_by reads outside few m mid new reported buffer now progress before out stands between takes sent =
       let x = takes stands.0 stands.1 in
       let y = sent x.1 x.5 in
       go x.1 x.4.2 x.4.1 x.4.3 y.0 y.1 y.2 y.5 y.6 y.7
     where
       go : (u : State) → u.rest.dispatches ≡ stands.0.rest.dispatches → stands.0.rest.dispatches < outside.limit →
-          (is_some (payer u.tasks) ≡ true) ⊎ (IsBetween u × (length outside.events - u.rest.delivered < length outside.events - stands.0.rest.delivered))
+          (is_some (budget_owner u.tasks) ≡ true) ⊎ (IsBetween u × (length outside.events - u.rest.delivered < length outside.events - stands.0.rest.delivered))
           → (lines : List Line) (v : State) → Moving mid.core.image buffer.refused u lines v → progress ≡ progress_of v →
-          progress ≢ progresses.Running → StandsFor new v → left outside.events outside.limit new < left outside.events outside.limit m
+          progress ≢ progresses.Running → RefinesWithNatives new v → left outside.events outside.limit new < left outside.events outside.limit m
       go u same below (inl paid) lines v moving far rests then_stands =
           lower (rounds outside.limit new) (rounds outside.limit m) (to_come outside.events new) (to_come outside.events m) (length outside.events)
           (fewer_by _ buffer.refused _ few m new stands.0 u v lines progress stands.1 then_stands between below same paid moving far rests) (omega arith)
-      go u same below (inr told) lines v moving far rests then_stands = grind (arith, idle_stays)
+      go u same below (inr reported) lines v moving far rests then_stands = grind (arith, idle_stays)
 
-  pub fewer_left : (outside : Environment) → outside.limit ≤ 2 ^ 64 - 1 → (m mid new : Machine X B) (told buffer now : LineBuffer)
-      (progress : Progress) (before out : Option (List ℕ)) → Stands m → reached m.core ≡ progresses.Turned → TakesTurns m outside None told buffer mid →
+  pub fewer_left : (outside : Environment) → outside.limit ≤ 2 ^ 64 - 1 → (m mid new : HostedMachine X B) (reported buffer now : LineBuffer)
+      (progress : Progress) (before out : Option (List ℕ)) → Stands m → reached m.core ≡ progresses.Turned → TakesTurns m outside None reported buffer mid →
       Sent line_text mid progress buffer now before out new → left outside.events outside.limit new < left outside.events outside.limit m
   fewer_left outside = fewer_left_by line_text outside
 
   -- what the machine in the run has of natives and refused requests is what it had at first
-  pub turns_as : (m new : Machine X B) (limit : ℕ) (events : List TimedEvent)
-      (result : Option Ending) (told now : LineBuffer) {refused : List ℕ} {natives : ℕ} → told.refused ≡ refused → natives_of m ≡ natives → TakesTurns m
-      (hearing told.refused limit (natives_of m) events) result told now new → TakesTurns m (hearing refused limit natives events) result told now new
-  turns_as m new limit events result told now {refused} {natives} same count takes = subst (λ n. TakesTurns m (hearing refused limit n events)
-      result told now new) count (subst (λ r. TakesTurns m (hearing r limit (natives_of m) events) result told now new) same takes)
+  pub turns_as : (m new : HostedMachine X B) (limit : ℕ) (events : List TimedEvent)
+      (result : Option Ending) (reported now : LineBuffer) {refused : List ℕ} {natives : ℕ} → reported.refused ≡ refused → natives_of m ≡ natives → TakesTurns m
+      (observing reported.refused limit (natives_of m) events) result reported now new → TakesTurns m (observing refused limit natives events) result reported now new
+  turns_as m new limit events result reported now {refused} {natives} same count takes = subst (λ n. TakesTurns m (observing refused limit n events)
+      result reported now new) count (subst (λ r. TakesTurns m (observing r limit (natives_of m) events) result reported now new) same takes)
 
   -- once turns have dispatched: how far the run has come, with what buffer, and that the machine stands for a state
   pub after_turns : {reads : Line → List ℕ}
-      (p : Image) (events : List TimedEvent) (limit : ℕ) (before mid : Option (List ℕ)) (old m : Machine X B) (told buffer first : LineBuffer) {natives : ℕ} →
-      (far : SoFar reads p (hearing first.refused limit natives events) before mid told.lines old) → old.core.image ≡ p →
-      told ≡ record first { lines = [] } → natives_of old ≡ natives → TakesTurns old (hearing told.refused limit (natives_of old) events) None told buffer m →
-      SoFar reads p (hearing first.refused limit natives events) before mid buffer.lines m × (buffer ≡ record first { lines = buffer.lines }) × Stands m
-  after_turns {reads} p events limit before mid old m told buffer first {natives} far image is count takes =
-      let outside = hearing first.refused limit natives events in
+      (p : Image) (events : List TimedEvent) (limit : ℕ) (before mid : Option (List ℕ)) (old m : HostedMachine X B) (reported buffer first : LineBuffer) {natives : ℕ} →
+      (far : SoFar reads p (observing first.refused limit natives events) before mid reported.lines old) → old.core.image ≡ p →
+      reported ≡ record first { lines = [] } → natives_of old ≡ natives → TakesTurns old (observing reported.refused limit (natives_of old) events) None reported buffer m →
+      SoFar reads p (observing first.refused limit natives events) before mid buffer.lines m × (buffer ≡ record first { lines = buffer.lines }) × Stands m
+  after_turns {reads} p events limit before mid old m reported buffer first {natives} far image is count takes =
+      let outside = observing first.refused limit natives events in
       let stands : Stands old = (far.state, far.stands) in
-      let turns = turns_as old m limit events None told buffer (ap (λ (t : LineBuffer). t.refused) is) count takes in (
-        turned_on p outside before mid mid old m told buffer far image (ap (λ (t : LineBuffer). t.lines) is) turns,
-        turned_same old m outside told buffer stands turns ∙ ap (λ (t : LineBuffer). record t { lines = buffer.lines }) is,
-        turned_stands old m outside told buffer stands turns,
+      let turns = turns_as old m limit events None reported buffer (ap (λ (t : LineBuffer). t.refused) is) count takes in (
+        turned_on p outside before mid mid old m reported buffer far image (ap (λ (t : LineBuffer). t.lines) is) turns,
+        turned_same old m outside reported buffer stands turns ∙ ap (λ (t : LineBuffer). record t { lines = buffer.lines }) is,
+        turned_stands old m outside reported buffer stands turns,
       )
 
   -- the last line after the others
-  module _ {reads : Line → List ℕ} (m new : Machine X B) (outside : Environment)
+  module _ {reads : Line → List ℕ} (m new : HostedMachine X B) (outside : Environment)
       (ending : Ending) (before mid now : Option (List ℕ)) (failed : Bool) (run : Ended reads m.core.image outside ending before mid new) where
     last : List ℕ
     last = ended (end_text ending (count_cells run.state.cells))
 
-    told : now ≡ after mid last → Told reads m.core.image outside ending before now new
+    reported : now ≡ after mid last → Reported reads m.core.image outside ending before now new
     unfolding last
-    told out = record { lines = run.lines; state = run.state; run = run.run; stands = run.stands; out = out ∙ ap (λ o. after o last) run.out ∙ after_both before (text_by reads run.lines) last }
+    reported out = record { lines = run.lines; state = run.state; run = run.run; stands = run.stands; out = out ∙ ap (λ o. after o last) run.out ∙ after_both before (text_by reads run.lines) last }
 
     cut_last : (n : ℕ) → now ≡ after mid (take n last) → CutShort reads m.core.image outside before now
     unfolding last
@@ -299,9 +299,9 @@ module _ {X : Type 0} {B : X → Type 0} where
     }
 
     pub ran : (outcome : Outcome) → (outcome ≡ WriteFault → failed ≡ true) → ((outcome ≡ WriteFault → ⊥) → outcome ≡ outcome_of ending)
-        → ((s : State) → StandsFor new s → (n : ℕ) × (now ≡ after mid (take n (ended (end_text ending (count_cells s.cells))))))
-        → ((outcome ≡ WriteFault → ⊥) → (s : State) → StandsFor new s → now ≡ after mid (ended (end_text ending (count_cells s.cells))))
+        → ((s : State) → RefinesWithNatives new s → (n : ℕ) × (now ≡ after mid (take n (ended (end_text ending (count_cells s.cells))))))
+        → ((outcome ≡ WriteFault → ⊥) → (s : State) → RefinesWithNatives new s → now ≡ after mid (ended (end_text ending (count_cells s.cells))))
         → Ran reads m outside outcome failed before now new
     unfolding last
     ran WriteFault fault is part whole = grind (arith, nat_tests, cut_last)
-    ran _ fault is part whole = grind (arith, nat_tests, same_outcome, told)
+    ran _ fault is part whole = grind (arith, nat_tests, same_outcome, reported)

@@ -8,7 +8,7 @@ use Rattle.std.proofs.lemmas.List.Folds.{list_any-append}
 use Rattle.aom_run.proofs.NativesLemmas.{same-out}
 use Rattle.aom_run.proofs.Named.{at_most_one, elsewhere, there, turned_false}
 use Rattle.aom_image.specs.Image.{Image}
-use Rattle.aom_run.proofs.DeterminismLemmas.{IsAbout, Tale, above, sessions_turned, told, top}
+use Rattle.aom_run.proofs.DeterminismLemmas.{IsAbout, Tale, above, sessions_turned, reported, top}
 use Rattle.aom_determinism.specs.Endings.{one_where}
 use Rattle.aom_natives.specs.Owed.{TakesOut, times}
 use Rattle.aom_natives.specs.Slots.{KeepsOthers, ids_at, ids_of, living_at}
@@ -16,17 +16,17 @@ use Rattle.aom_determinism.specs.Owed.{has_name, killed_turned, owes, owes_turne
 use Rattle.aom_semantics.specs.Natives.{is_dead}
 use Rattle.aom_semantics.specs.Places.{named}
 use Rattle.aom_semantics.specs.State.{Counters, State}
-use Rattle.aom_semantics.specs.World.{AnswersWell, Completes, Completion, Cuts, Hears, Kills, Obeys, Passes, Picks, Polls, Turning, Waits, cell_at, delivers}
+use Rattle.aom_semantics.specs.World.{AnswersWell, Completes, Completion, Cuts, Observes, Kills, Executes, Passes, Picks, Polls, Turning, Waits, cell_at, delivers}
 use Rattle.aom_transcript.specs.declared.event.ClientCommand.{ClientCommand}
 use Rattle.aom_transcript.specs.declared.event.Event.{Event}
 use Rattle.aom_transcript.specs.declared.event.Event.TheVariants.{Client}
 use Rattle.aom_machine_state.specs.LineBuffer.{LineBuffer}
-use Rattle.aom_machine_state.specs.Stands.{Machine as Core, StandsFor as Core_stands}
-use Rattle.aom_machine.specs.Clients.{Obeyed}
+use Rattle.aom_machine_state.specs.Stands.{MachineModel as Core, Refines as Core_stands}
+use Rattle.aom_machine.specs.Clients.{Executed}
 use Rattle.aom_machine.specs.Steps.{timers}
 use Rattle.aom_machine.specs.Turns.{NoneDue, Completed as Core_completed, Picked as Core_picked, Takes as Core_takes, TakesAll as Core_takes_all}
-use Rattle.aom_run.specs.declared.machine.Machine.{Machine}
-use Rattle.aom_run.specs.Calls.{Completed, Delivered, IsDelivered, Picked, StandsFor, Takes, TakesAll}
+use Rattle.aom_run.specs.declared.machine.HostedMachine.{HostedMachine}
+use Rattle.aom_run.specs.Calls.{Completed, Delivered, IsDelivered, Picked, RefinesWithNatives, Takes, TakesAll}
 use Rattle.aom_run.specs.Beside.{KeptSame, Serves}
 
 -- a part of a turn that neither kills nor completes anything at a native
@@ -108,7 +108,7 @@ module _ {L : Type 0} (kept : L → List ℕ) (old new : List (Option L)) where
       left_here : (m : ℕ) → times m (ids_at kept new n) ≡ one_where (owes p u.cells n m)
       left_here m = grind (arith, nat_tests, left m (id == m) (owes p s.cells n m), owes p s.cells n m, taken m, eq-eqb n n)
 
-module _ {X : Type 0} {B : X → Type 0} (old new : Machine X B) (s : State) (st : StandsFor old s) where
+module _ {X : Type 0} {B : X → Type 0} (old new : HostedMachine X B) (s : State) (st : RefinesWithNatives old s) where
   -- what the core takes of a turn the whole takes, where what is kept of natives fits the state after it
   pub takes_so : (part : Turning) → length new.natives.slots.items ≡ length old.natives.slots.items →
       new.core.image ≡ old.core.image → (before now : LineBuffer) → (core : Core_takes old.core s part before now new.core) →
@@ -127,7 +127,7 @@ module _ {X : Type 0} {B : X → Type 0} (old new : Machine X B) (s : State) (st
 
   pub tale_of : (part : Turning) → IsAbout s part → AnswersWell old.core.image s part →
       (before now : LineBuffer) → (core : Core_takes old.core s part before now new.core) → Tale old.core.image s core.state part
-  tale_of part about well before now core = told old.core.image st.stands.typing s core.state st.stands.typed part st.stands.kept.fit about well core.goes
+  tale_of part about well before now core = reported old.core.image st.stands.typing s core.state st.stands.typed part st.stands.kept.fit about well core.goes
 
   -- so where natives are as they were, but for calls that change nothing outstanding
   pub takes_plainly : (part : Turning) → IsPlain s part → IsAbout s part →
@@ -143,23 +143,23 @@ none_due_still old new k rest back none s st x e =
     let same : s.rest.clock ≡ old.parts.rest.clock = sym (ap (λ (r : Counters). r.clock) st.agrees.rest) ∙ ap (λ (r : Counters). r.clock) rest in
     subst (λ c. c < x.timer.due) (sym same) (none (record s { rest = old.parts.rest }) (back s st) x e)
 
-pub heard_plain : (s : State) → IsPlain s Hears
-heard_plain s = record { owes = λ n m b. refl; killed = refl }
+pub observed_plain : (s : State) → IsPlain s Observes
+observed_plain s = record { owes = λ n m b. refl; killed = refl }
 
 -- where nothing is sent any free name will do
 pub with_any_name : (s : State) (P : ℕ → Type 0) → ((name : ℕ) → P name) → (name : ℕ) × (named s.cells name ≡ None) × P name
 with_any_name s P for_all = (top s.cells, above s.cells (top s.cells) (omega arith), for_all (top s.cells))
 
 -- an event for one native leaves the others as they were
-pub untold_but : {L : Type 0} (old new : List (Option L)) (n : ℕ) → KeepsOthers old new n → (k : ℕ) → (n == k) ≡ false → living_at new k ≡ living_at old k
-untold_but old new n others k apart = others.others k (λ same. true≢false (sym (eq-eqb n k (sym same)) ∙ apart))
+pub unreported_but : {L : Type 0} (old new : List (Option L)) (n : ℕ) → KeepsOthers old new n → (k : ℕ) → (n == k) ≡ false → living_at new k ≡ living_at old k
+unreported_but old new n others k apart = others.others k (λ same. true≢false (sym (eq-eqb n k (sym same)) ∙ apart))
 
 -- the same natives
 pub untouched : {L : Type 0} (kept : L → List ℕ) (slots : List (Option L)) → KeptSame kept slots slots
 untouched kept slots = record { count = refl; living = λ k. refl; ids = λ k. refl }
 
-module _ {X : Type 0} {B : X → Type 0} (old : Machine X B) (core : Core) (image : core.image ≡ old.core.image) where
-  plainly : (part : Turning) (s : State) → StandsFor old s → IsPlain s part → IsAbout s part → AnswersWell old.core.image s part →
+module _ {X : Type 0} {B : X → Type 0} (old : HostedMachine X B) (core : Core) (image : core.image ≡ old.core.image) where
+  plainly : (part : Turning) (s : State) → RefinesWithNatives old s → IsPlain s part → IsAbout s part → AnswersWell old.core.image s part →
       (before now : LineBuffer) → Core_takes old.core s part before now core → Takes old s part before now (record { core = core; natives = old.natives })
   plainly part s st plain about well before now taken = search (arith, nat_tests, takes_plainly old, untouched)
 
@@ -179,41 +179,41 @@ module _ {X : Type 0} {B : X → Type 0} (old : Machine X B) (core : Core) (imag
   completed_so false done = (ap (λ (c : Core). record { core = c; natives = old.natives }) done.0, done.1)
 
   -- what a client is told it does, if it is one
-  pub obeyed_so : (client : ℕ) (command : ClientCommand) (before now : LineBuffer) → client < 64 → ((s : State) → Core_stands old.core s →
-      Obeyed old.core s client command before now core) → Delivered old (Client client command) before now (record { core = core; natives = old.natives })
-  obeyed_so client command before now less done = λ outside same s st.
+  pub executed_so : (client : ℕ) (command : ClientCommand) (before now : LineBuffer) → client < 64 → ((s : State) → Core_stands old.core s →
+      Executed old.core s client command before now core) → Delivered old (Client client command) before now (record { core = core; natives = old.natives })
+  executed_so client command before now less done = λ outside same s st.
       let d = done s st.stands in (
         d.0,
         d.1,
         subst (λ part. Takes old s part before now (record { core = core; natives = old.natives })) (grind arith)
-            (plainly (Obeys client command d.0) s st (record { owes = λ n m b. refl; killed = refl }) d.1 tt before now d.2),
+            (plainly (Executes client command d.0) s st (record { owes = λ n m b. refl; killed = refl }) d.1 tt before now d.2),
       )
 
-  pub obeyed_none : (client : ℕ) (command : ClientCommand) → 64 ≤ client →
-      Core_takes_all old.core Hears core → (now : LineBuffer) → Delivered old (Client client command) now now (record { core = core; natives = old.natives })
-  obeyed_none client command past all now = λ outside same s st.
+  pub executed_none : (client : ℕ) (command : ClientCommand) → 64 ≤ client →
+      Core_takes_all old.core Observes core → (now : LineBuffer) → Delivered old (Client client command) now now (record { core = core; natives = old.natives })
+  executed_none client command past all now = λ outside same s st.
       with_any_name s (λ name. Takes old s (delivers outside name s (Client client command)) now now (record { core = core; natives = old.natives })) (λ name.
       subst (λ part. Takes old s part now now (record { core = core; natives = old.natives })) (grind arith)
-      (plainly Hears s st (heard_plain s) tt tt now now (all now s st.stands)))
+      (plainly Observes s st (observed_plain s) tt tt now now (all now s st.stands)))
 
   pub picked_so : (b : Bool) (before now : LineBuffer) → Core_picked old.core b before now core →
       Picked old b before now (record { core = core; natives = old.natives })
   picked_so true before now done = λ s st.
       let d = done s st.stands in
-      (d.0, d.1, d.2, plainly (Picks d.0.seat) s st (record { owes = λ n m b. refl; killed = refl }) (d.0, d.1, refl) tt before now d.3)
+      (d.0, d.1, d.2, plainly (Picks d.0.owned_object) s st (record { owes = λ n m b. refl; killed = refl }) (d.0, d.1, refl) tt before now d.3)
   picked_so false before now done = (ap (λ (c : Core). record { core = c; natives = old.natives }) done.0, done.1, λ s st. done.2 s st.stands)
 
   -- an event that changes nothing writes no line
-  pub heard_only : (event : Event) (now : LineBuffer) → Delivered old event now now (record { core = core; natives = old.natives }) → core.parts.rest
+  pub observed_only : (event : Event) (now : LineBuffer) → Delivered old event now now (record { core = core; natives = old.natives }) → core.parts.rest
       ≡ record old.core.parts.rest { delivered = suc old.core.parts.rest.delivered } → ((s : State) → Core_stands core s → Core_stands old.core (record s
       { rest = old.core.parts.rest })) → timers core ≡ timers old.core → IsDelivered old event false now now (record { core = core; natives = old.natives })
-  heard_only event now delivered rest back same = record {
+  observed_only event now delivered rest back same = record {
     image = image;
     natives = record { count = refl; at = λ k apart. refl };
     delivered = delivered;
     rest = rest;
     timers = same;
-    told = omega arith;
+    reported = omega arith;
     quiet = λ e. refl;
     none_due = λ e. none_due_still old.core core _ rest back;
   }

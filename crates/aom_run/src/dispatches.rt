@@ -7,7 +7,7 @@ ghost use Rattle.aom_run.specs.Beside.{KeepsUnnamed};
 ghost use Rattle.aom_run.specs.Calls.{Stands};
 ghost use Rattle.aom_natives.specs.Slots.{AllAgree};
 
-use crate::Machine;
+use crate::HostedMachine;
 use aom_machine::Progress;
 use aom_machine_state::LineBuffer;
 use aom_natives::Native;
@@ -19,7 +19,7 @@ const MANY_LINES: usize = 64;
 /// Runs what is at hand until nothing is, and writes its lines after those of the buffer, by the names of classes where there are some, or
 /// gives up where the sink fails.
 pub fn run_dispatch<W: Sink>(
-    machine: &mut Machine,
+    machine: &mut HostedMachine,
     lines: &mut LineBuffer,
     page: &mut Page,
     names: Option<&[&[u8]]>,
@@ -49,7 +49,7 @@ pub fn run_dispatch<W: Sink>(
 }
 
 /// Steps on until the buffer has many lines or nothing is at hand.
-fn fill(machine: &mut Machine, lines: &mut LineBuffer) -> Progress
+fn fill(machine: &mut HostedMachine, lines: &mut LineBuffer) -> Progress
     requires agree { AllAgree (λ l. l.ids) (λ l. (⟦<dyn Native as Native>⟧ l.native.vtable).owed l.native.value) machine.old.natives.slots.items }
     requires stands { Stands machine.old }
     requires room { HasRoom machine.old lines.old }

@@ -1,9 +1,9 @@
 //! The machine with its natives, and its runs.
 //!
-//! A `Machine` has the boxes of its natives beside the machine of plain numbers, which makes no call to them itself. `run` promises that
+//! A `HostedMachine` has the boxes of its natives beside the machine of plain numbers, which makes no call to them itself. `run` promises that
 //! what went out is the transcript of a run of the checked machine, or a beginning of one where the sink failed (`Ran` of
 //! `specs/Runs.antt`), and `run_named` the same of that transcript with the names of classes in place of their numbers. No call but
-//! `Machine::boot` takes memory, by signature. A run knows what a machine's calls promise, and nothing of how it keeps its cells.
+//! `HostedMachine::boot` takes memory, by signature. A run knows what a machine's calls promise, and nothing of how it keeps its cells.
 #![tactic(auto)]
 
 mod asking;
@@ -14,7 +14,7 @@ mod runs;
 mod turns;
 mod waiting;
 
-pub use machine::Machine;
+pub use machine::HostedMachine;
 pub use outcome::Outcome;
 pub use runs::{run, run_named};
 pub use turns::take_turns;

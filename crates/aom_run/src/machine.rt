@@ -2,17 +2,17 @@
 ghost use Rattle.std.specs.Prelude.{ℤ, ◌≡◌, ◌<◌, ◌≤◌, ◌+◌, ◌↔◌, IfErr, IfOk, map, option_map, length, Some};
 ghost use Rattle.aom_machine.specs.Steps.{rank};
 ghost use Rattle.aom_machine_state.specs.LineBuffer.{step_lines};
-ghost use Rattle.aom_machine_state.specs.Stands.{StandsFor as CoreStands};
+ghost use Rattle.aom_machine_state.specs.Stands.{Refines as CoreStands};
 ghost use Rattle.aom_machine_state.specs.declared.progress.Progress.TheVariants.{Running};
-ghost use Rattle.aom_run.specs.Answers.{KeepsUnasked, MayHear, asked_of};
-ghost use Rattle.aom_run.specs.Calls.{StaysIdle, Stands, StandsFor, SteppedOn, SteppedOnce, natives_of};
+ghost use Rattle.aom_run.specs.Answers.{KeepsUnasked, MayObserve, asked_of};
+ghost use Rattle.aom_run.specs.Calls.{StaysIdle, Stands, RefinesWithNatives, SteppedOn, SteppedOnce, natives_of};
 ghost use Rattle.aom_natives.specs.Owed.{OweNothing};
 ghost use Rattle.aom_natives.specs.Slots.{AllAgree};
 ghost use Rattle.aom_semantics.specs.State.{State};
 ghost use Rattle.aom_semantics.specs.World.{boot_state};
 
 use aom_budget::Accepted;
-use aom_machine::{Progress, Wanted};
+use aom_machine::{NativeCall, Progress};
 use aom_machine_state::LineBuffer;
 use aom_natives::{BootFault, Native, Natives};
 use aom_transcript::Event;
@@ -20,22 +20,22 @@ use std::alloc::Global;
 
 /// What an accepted image does, and the natives that it talks to.
 #[derive(Drop)]
-pub struct Machine<'a> {
+pub struct HostedMachine<'a> {
     pub core: aom_machine::Machine<'a>,
     pub natives: Natives,
 }
 
-impl<'a> Machine<'a> {
+impl<'a> HostedMachine<'a> {
     /// A machine at time 0, with main at hand, beside those natives, each of which owes nothing. It takes all the memory that the machine
     /// will ever have. Where it does not boot, the natives come back.
     pub fn boot(
         alloc: Global,
         accepted: &'a Accepted,
         boxes: Vec<Box<dyn Native>>,
-    ) -> Result<Machine<'a>, (BootFault, Vec<Box<dyn Native>>)>
+    ) -> Result<HostedMachine<'a>, (BootFault, Vec<Box<dyn Native>>)>
         requires { OweNothing (λ b. (⟦<dyn Native as Native>⟧ b.vtable).owed b.value) boxes.items }
         ensures image { IfOk result (λ m. m.core.image ≡ accepted.now) }
-        ensures stands { IfOk result (λ m. StandsFor m (boot_state accepted.now)) }
+        ensures stands { IfOk result (λ m. RefinesWithNatives m (boot_state accepted.now)) }
         ensures agree { IfOk result (λ m. AllAgree (λ l. l.ids) (λ l. (⟦<dyn Native as Native>⟧ l.native.vtable).owed l.native.value) m.natives.slots.items) }
         ensures boxes { IfOk result (λ m. map (option_map (λ l. l.native)) m.natives.slots.items ≡ map (λ b. Some b) boxes.items) }
         ensures few { IfErr result (λ e. (e.0 ≡ BootFault.TooFewNatives) ↔ (length boxes.items < accepted.now.header.natives)) }
@@ -45,29 +45,29 @@ impl<'a> Machine<'a> {
             return Err((BootFault::TooFewNatives, boxes));
         }
         match aom_machine::Machine::boot(alloc, accepted) {
-            Ok(core) => Machine::beside(alloc, core, boxes),
+            Ok(core) => HostedMachine::boot_with_natives(alloc, core, boxes),
             Err(_) => Err((BootFault::OutOfMemory, boxes)),
         }
     }
 
     /// A machine that has booted, beside those natives. It has as many as its image names.
-    fn beside(
+    fn boot_with_natives(
         alloc: Global,
         core: aom_machine::Machine<'a>,
         boxes: Vec<Box<dyn Native>>,
-    ) -> Result<Machine<'a>, (BootFault, Vec<Box<dyn Native>>)>
+    ) -> Result<HostedMachine<'a>, (BootFault, Vec<Box<dyn Native>>)>
         requires owed { OweNothing (λ b. (⟦<dyn Native as Native>⟧ b.vtable).owed b.value) boxes.items }
         requires stands { CoreStands core (boot_state core.image) }
         requires enough { core.image.header.natives ≤ length boxes.items }
         ensures image { IfOk result (λ m. m.core.image ≡ core.entry.image) }
-        ensures stands { IfOk result (λ m. StandsFor m (boot_state core.entry.image)) }
+        ensures stands { IfOk result (λ m. RefinesWithNatives m (boot_state core.entry.image)) }
         ensures agree { IfOk result (λ m. AllAgree (λ l. l.ids) (λ l. (⟦<dyn Native as Native>⟧ l.native.vtable).owed l.native.value) m.natives.slots.items) }
         ensures boxes { IfOk result (λ m. map (option_map (λ l. l.native)) m.natives.slots.items ≡ map (λ b. Some b) boxes.items) }
         ensures memory { IfErr result (λ e. e.0 ≡ BootFault.OutOfMemory) }
         ensures back { IfErr result (λ e. e.1.items ≡ boxes.items) }
     {
         match Natives::adopt(alloc, boxes) {
-            Ok(natives) => Ok(Machine { core, natives }),
+            Ok(natives) => Ok(HostedMachine { core, natives }),
             Err((_, boxes)) => {
                 drop(core);
                 Err((BootFault::OutOfMemory, boxes))
@@ -85,9 +85,9 @@ impl<'a> Machine<'a> {
         ensures agree { AllAgree (λ l. l.ids) (λ l. (⟦<dyn Native as Native>⟧ l.native.vtable).owed l.native.value) self.new.natives.slots.items }
         ensures image { self.new.core.image ≡ self.old.core.image }
         ensures natives { natives_of self.new ≡ natives_of self.old }
-        ensures unasked { (s : State) → StandsFor self.old s → KeepsUnasked self.old.natives.slots.items (asked_of self.old.core.image s) self.new.natives.slots.items }
+        ensures unasked { (s : State) → RefinesWithNatives self.old s → KeepsUnasked self.old.natives.slots.items (asked_of self.old.core.image s) self.new.natives.slots.items }
         ensures idle { StaysIdle self.old lines.old lines.new self.new }
-        ensures steps { (s : State) → StandsFor self.old s → (heard : ℤ) × MayHear (λ l. (⟦<dyn Native as Native>⟧ l.native.vtable).open_may l.native.value) (λ l. (⟦<dyn Native as Native>⟧ l.native.vtable).start_may l.native.value) (λ l. (⟦<dyn Native as Native>⟧ l.native.vtable).call_may l.native.value) self.old.natives.slots.items (asked_of self.old.core.image s) heard × SteppedOn self.old heard result lines.old lines.new self.new s }
+        ensures steps { (s : State) → RefinesWithNatives self.old s → (observed : ℤ) × MayObserve (λ l. (⟦<dyn Native as Native>⟧ l.native.vtable).open_may l.native.value) (λ l. (⟦<dyn Native as Native>⟧ l.native.vtable).start_may l.native.value) (λ l. (⟦<dyn Native as Native>⟧ l.native.vtable).call_may l.native.value) self.old.natives.slots.items (asked_of self.old.core.image s) observed × SteppedOn self.old observed result lines.old lines.new self.new s }
         ensures falls { result ≡ Running → rank self.new.core < rank self.old.core }
     {
         self.ask();
@@ -102,9 +102,9 @@ impl<'a> Machine<'a> {
         ensures agree { AllAgree (λ l. l.ids) (λ l. (⟦<dyn Native as Native>⟧ l.native.vtable).owed l.native.value) self.new.natives.slots.items }
         ensures image { self.new.core.image ≡ self.old.core.image }
         ensures natives { natives_of self.new ≡ natives_of self.old }
-        ensures unasked { (s : State) → StandsFor self.old s → KeepsUnasked self.old.natives.slots.items (asked_of self.old.core.image s) self.new.natives.slots.items }
+        ensures unasked { (s : State) → RefinesWithNatives self.old s → KeepsUnasked self.old.natives.slots.items (asked_of self.old.core.image s) self.new.natives.slots.items }
         ensures idle { StaysIdle self.old lines.old lines.new self.new }
-        ensures steps { (s : State) → StandsFor self.old s → (heard : ℤ) × MayHear (λ l. (⟦<dyn Native as Native>⟧ l.native.vtable).open_may l.native.value) (λ l. (⟦<dyn Native as Native>⟧ l.native.vtable).start_may l.native.value) (λ l. (⟦<dyn Native as Native>⟧ l.native.vtable).call_may l.native.value) self.old.natives.slots.items (asked_of self.old.core.image s) heard × SteppedOnce self.old heard result lines.old lines.new self.new s }
+        ensures steps { (s : State) → RefinesWithNatives self.old s → (observed : ℤ) × MayObserve (λ l. (⟦<dyn Native as Native>⟧ l.native.vtable).open_may l.native.value) (λ l. (⟦<dyn Native as Native>⟧ l.native.vtable).start_may l.native.value) (λ l. (⟦<dyn Native as Native>⟧ l.native.vtable).call_may l.native.value) self.old.natives.slots.items (asked_of self.old.core.image s) observed × SteppedOnce self.old observed result lines.old lines.new self.new s }
         ensures falls { result ≡ Running → rank self.new.core < rank self.old.core }
     {
         self.ask();

@@ -6,17 +6,17 @@ ghost use Rattle.aom_determinism.specs.Determined.{IsDetermined};
 ghost use Rattle.aom_transcript.specs.Text.{ended, end_text, line_text};
 ghost use Rattle.aom_machine_state.specs.LineBuffer.{step_lines};
 ghost use Rattle.aom_run.specs.Outcomes.{outcome_of};
-ghost use Rattle.aom_run.specs.Turns.{hearing};
+ghost use Rattle.aom_run.specs.Turns.{observing};
 ghost use Rattle.aom_transcript.specs.Naming.{named_by};
 ghost use Rattle.aom_run.specs.Runs.{IsFresh, Ran, Ended, CutShort};
 ghost use Rattle.aom_transcript.specs.Sinks.{after};
 ghost use Rattle.aom_script.specs.Script.{IsTimely};
-ghost use Rattle.aom_run.specs.Calls.{EventInRange, StandsFor, natives_of};
+ghost use Rattle.aom_run.specs.Calls.{EventInRange, RefinesWithNatives, natives_of};
 ghost use Rattle.aom_natives.specs.Slots.{AllAgree};
 
 use crate::dispatches::run_dispatch;
 use crate::turns::take_turns;
-use crate::{Machine, Outcome};
+use crate::{HostedMachine, Outcome};
 use aom_machine::Progress;
 use aom_machine_state::LineBuffer;
 use aom_natives::Native;
@@ -29,7 +29,7 @@ use aom_transcript::{Ending, Page, Sink, TimedEvent, write_text};
 /// The run ends after `limit` dispatches of objects, from 1 to 10^9. It hears the script's events, each at its time, and polls each living
 /// native once in each turn.
 pub fn run<W: Sink>(
-    machine: &mut Machine,
+    machine: &mut HostedMachine,
     script: &Script,
     lines: &mut LineBuffer,
     limit: u32,
@@ -42,8 +42,8 @@ pub fn run<W: Sink>(
     requires timely { IsTimely script.now.timed }
     ensures agree { AllAgree (λ l. l.ids) (λ l. (⟦<dyn Native as Native>⟧ l.native.vtable).owed l.native.value) machine.new.natives.slots.items }
     ensures image { machine.new.core.image ≡ machine.old.core.image }
-    ensures ran { Ran line_text machine.old (hearing lines.old.refused limit (natives_of machine.old) script.now.timed) result (W.failed out.new) (W.out out.old) (W.out out.new) machine.new }
-    ensures determined { IsDetermined machine.old.core.image (hearing lines.old.refused limit (natives_of machine.old) script.now.timed) }
+    ensures ran { Ran line_text machine.old (observing lines.old.refused limit (natives_of machine.old) script.now.timed) result (W.failed out.new) (W.out out.old) (W.out out.new) machine.new }
+    ensures determined { IsDetermined machine.old.core.image (observing lines.old.refused limit (natives_of machine.old) script.now.timed) }
 {
     run_named(machine, script, lines, limit, None, out)
 }
@@ -51,7 +51,7 @@ pub fn run<W: Sink>(
 /// Runs a machine as `run` does, and writes its classes by these names, of which the first is that of class 0. A class without a name, or
 /// with one that is longer than a name may be, is written by its number.
 pub fn run_named<W: Sink>(
-    machine: &mut Machine,
+    machine: &mut HostedMachine,
     script: &Script,
     lines: &mut LineBuffer,
     limit: u32,
@@ -65,8 +65,8 @@ pub fn run_named<W: Sink>(
     requires timely { IsTimely script.now.timed }
     ensures agree { AllAgree (λ l. l.ids) (λ l. (⟦<dyn Native as Native>⟧ l.native.vtable).owed l.native.value) machine.new.natives.slots.items }
     ensures image { machine.new.core.image ≡ machine.old.core.image }
-    ensures ran { Ran (named_by names.entry) machine.old (hearing lines.old.refused limit (natives_of machine.old) script.now.timed) result (W.failed out.new) (W.out out.old) (W.out out.new) machine.new }
-    ensures determined { IsDetermined machine.old.core.image (hearing lines.old.refused limit (natives_of machine.old) script.now.timed) }
+    ensures ran { Ran (named_by names.entry) machine.old (observing lines.old.refused limit (natives_of machine.old) script.now.timed) result (W.failed out.new) (W.out out.old) (W.out out.new) machine.new }
+    ensures determined { IsDetermined machine.old.core.image (observing lines.old.refused limit (natives_of machine.old) script.now.timed) }
 {
     aom_determinism::text_is_determined();
     match run_lines(machine, script.events(), lines, limit, names, out) {
@@ -77,7 +77,7 @@ pub fn run_named<W: Sink>(
 
 /// Runs a fresh machine to its end and writes its lines, or gives up where the sink fails.
 fn run_lines<W: Sink>(
-    machine: &mut Machine,
+    machine: &mut HostedMachine,
     events: &[TimedEvent],
     lines: &mut LineBuffer,
     limit: u32,
@@ -90,8 +90,8 @@ fn run_lines<W: Sink>(
     requires ranged { All (λ e. EventInRange e.event) events.now }
     ensures agree { AllAgree (λ l. l.ids) (λ l. (⟦<dyn Native as Native>⟧ l.native.vtable).owed l.native.value) machine.new.natives.slots.items }
     ensures image { machine.new.core.image ≡ machine.old.core.image }
-    ensures none { IfNone result ((W.failed out.new ≡ true) × CutShort (named_by names.entry) machine.old.core.image (hearing lines.old.refused limit (natives_of machine.old) events.now) (W.out out.old) (W.out out.new)) }
-    ensures some { IfSome result (λ ending. Ended (named_by names.entry) machine.old.core.image (hearing lines.old.refused limit (natives_of machine.old) events.now) ending (W.out out.old) (W.out out.new) machine.new) }
+    ensures none { IfNone result ((W.failed out.new ≡ true) × CutShort (named_by names.entry) machine.old.core.image (observing lines.old.refused limit (natives_of machine.old) events.now) (W.out out.old) (W.out out.new)) }
+    ensures some { IfSome result (λ ending. Ended (named_by names.entry) machine.old.core.image (observing lines.old.refused limit (natives_of machine.old) events.now) ending (W.out out.old) (W.out out.new) machine.new) }
 {
     lines.clear();
     let mut page = Page::new();
@@ -108,11 +108,11 @@ fn run_lines<W: Sink>(
 }
 
 /// Writes the last line.
-fn finish<W: Sink>(machine: &Machine, ending: Ending, out: &mut W) -> Outcome
+fn finish<W: Sink>(machine: &HostedMachine, ending: Ending, out: &mut W) -> Outcome
     ensures fault { result ≡ Outcome.WriteFault → W.failed out.new ≡ true }
     ensures outcome { (result ≡ Outcome.WriteFault → ⊥) → result ≡ outcome_of ending }
-    ensures prefix { (s : State) → StandsFor machine.now s → (n : ℕ) × (W.out out.new ≡ after (W.out out.old) (take n (ended (end_text ending (count_cells s.cells))))) }
-    ensures whole { (result ≡ Outcome.WriteFault → ⊥) → (s : State) → StandsFor machine.now s → W.out out.new ≡ after (W.out out.old) (ended (end_text ending (count_cells s.cells))) }
+    ensures prefix { (s : State) → RefinesWithNatives machine.now s → (n : ℕ) × (W.out out.new ≡ after (W.out out.old) (take n (ended (end_text ending (count_cells s.cells))))) }
+    ensures whole { (result ≡ Outcome.WriteFault → ⊥) → (s : State) → RefinesWithNatives machine.now s → W.out out.new ≡ after (W.out out.old) (ended (end_text ending (count_cells s.cells))) }
 {
     let mut page = Page::new();
     page.add_end(ending, machine.core.count());

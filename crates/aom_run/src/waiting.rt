@@ -3,14 +3,14 @@ ghost use Rattle.std.specs.Prelude.{◌≡◌, ◌<◌, ◌≤◌, ◌+◌, ◌-
 ghost use Rattle.aom_machine.specs.Clients.{IsInRange};
 ghost use Rattle.aom_machine.specs.Steps.{progress, timers};
 ghost use Rattle.aom_machine_state.specs.declared.progress.Progress.TheVariants.{Turned};
-ghost use Rattle.aom_run.specs.Calls.{Completed, EventInRange, IsDelivered, NoneIsDue, Picked, Polled, Stands, StandsBetween, StandsFor, TakesAll, natives_of, to_poll};
+ghost use Rattle.aom_run.specs.Calls.{Completed, EventInRange, IsDelivered, NoneIsDue, Picked, Polled, Stands, StandsBetween, RefinesWithNatives, TakesAll, natives_of, to_poll};
 ghost use Rattle.aom_run.specs.Beside.{KeptSame};
 ghost use Rattle.aom_natives.specs.Slots.{AllAgree, KeepsOthers, living_at};
 ghost use Rattle.aom_semantics.specs.State.{State};
 ghost use Rattle.aom_transcript.specs.declared.event.Event.TheVariants.{Client, Kill};
-ghost use Rattle.aom_semantics.specs.World.{Hears, first_living, Passes};
+ghost use Rattle.aom_semantics.specs.World.{Observes, first_living, Passes};
 
-use crate::Machine;
+use crate::HostedMachine;
 use aom_machine_state::LineBuffer;
 use aom_natives::{Native, Natives};
 use aom_transcript::{ClientCommand, Event};
@@ -19,7 +19,7 @@ use aom_transcript::{ClientCommand, Event};
 const CLIENTS: u8 = 64;
 
 /// A word comes for a native, which hears it if it lives.
-fn inform(natives: &mut Natives, native: usize, word: i32)
+fn send_word(natives: &mut Natives, native: usize, word: i32)
     requires agree { AllAgree (λ l. l.ids) (λ l. (⟦<dyn Native as Native>⟧ l.native.vtable).owed l.native.value) natives.old.slots.items }
     ensures agree { AllAgree (λ l. l.ids) (λ l. (⟦<dyn Native as Native>⟧ l.native.vtable).owed l.native.value) natives.new.slots.items }
     ensures same { KeptSame (λ l. l.ids) natives.old.slots.items natives.new.slots.items }
@@ -30,7 +30,7 @@ fn inform(natives: &mut Natives, native: usize, word: i32)
     }
 }
 
-impl<'a> Machine<'a> {
+impl<'a> HostedMachine<'a> {
     /// Between dispatches: the timer that is due first completes the request of its object, if it is due by now. Answers whether one was.
     pub fn due(&mut self) -> bool
         requires agree { AllAgree (λ l. l.ids) (λ l. (⟦<dyn Native as Native>⟧ l.native.vtable).owed l.native.value) self.old.natives.slots.items }
@@ -58,12 +58,12 @@ impl<'a> Machine<'a> {
         ensures delivered { IsDelivered self.old event result lines.old lines.new self.new }
     {
         match event {
-            Event::Tell(native, word) => {
-                self.tell(native as usize, word);
+            Event::Report(native, word) => {
+                self.report(native as usize, word);
                 false
             }
             Event::Kill(native) => self.kill(native, lines),
-            Event::Client(client, command) => self.obey(client, command, lines),
+            Event::Client(client, command) => self.execute(client, command, lines),
         }
     }
 
@@ -119,20 +119,20 @@ impl<'a> Machine<'a> {
     }
 
     /// A word comes for a native.
-    fn tell(&mut self, native: usize, word: i32)
+    fn report(&mut self, native: usize, word: i32)
         requires agree { AllAgree (λ l. l.ids) (λ l. (⟦<dyn Native as Native>⟧ l.native.vtable).owed l.native.value) self.old.natives.slots.items }
         requires between { progress self.old.core ≡ Turned }
         requires few { self.old.core.parts.rest.delivered + 1 < 2 ^ 64 }
         ensures agree { AllAgree (λ l. l.ids) (λ l. (⟦<dyn Native as Native>⟧ l.native.vtable).owed l.native.value) self.new.natives.slots.items }
         ensures image { self.new.core.image ≡ self.old.core.image }
         ensures natives { KeepsOthers self.old.natives.slots.items self.new.natives.slots.items native }
-        ensures heard { TakesAll self.old Hears self.new }
+        ensures observed { TakesAll self.old Observes self.new }
         ensures rest { self.new.core.parts.rest ≡ record self.old.core.parts.rest { delivered = suc self.old.core.parts.rest.delivered } }
         ensures timers { timers self.new.core ≡ timers self.old.core }
         ensures none_due { NoneIsDue self.old → NoneIsDue self.new }
     {
-        inform(&mut self.natives, native, word);
-        self.core.hear_event();
+        send_word(&mut self.natives, native, word);
+        self.core.observe_event();
     }
 
     /// A native is to end. Answers whether it lived.
@@ -145,7 +145,7 @@ impl<'a> Machine<'a> {
         ensures delivered { IsDelivered self.old (Kill native) result lines.old lines.new self.new }
     {
         if !self.natives.is_alive(native as usize) {
-            self.core.hear_event();
+            self.core.observe_event();
             return false;
         }
         self.natives.kill(native as usize);
@@ -154,7 +154,7 @@ impl<'a> Machine<'a> {
     }
 
     /// The client of that number does what it is told, if there is one. Answers whether that is refused.
-    fn obey(&mut self, client: u8, command: ClientCommand, lines: &mut LineBuffer) -> bool
+    fn execute(&mut self, client: u8, command: ClientCommand, lines: &mut LineBuffer) -> bool
         requires agree { AllAgree (λ l. l.ids) (λ l. (⟦<dyn Native as Native>⟧ l.native.vtable).owed l.native.value) self.old.natives.slots.items }
         requires rests { StandsBetween self.old }
         requires few { self.old.core.parts.rest.delivered + 1 < 2 ^ 64 }
@@ -164,16 +164,16 @@ impl<'a> Machine<'a> {
         ensures delivered { IsDelivered self.old (Client client command) result lines.old lines.new self.new }
     {
         if client >= CLIENTS {
-            self.core.hear_event();
+            self.core.observe_event();
             return false;
         }
-        self.core.obey(client, command, lines)
+        self.core.execute(client, command, lines)
     }
 
     /// The living native that comes next in the turn at hand.
     fn next_native(&self) -> Option<usize>
-        ensures none { result ≡ None → (s : State) → StandsFor self.now s → first_living s.killed (natives_of self.now - s.rest.polled) s.rest.polled ≡ None }
-        ensures some { IfSome result (λ n. (n < natives_of self.now) × (self.now.core.parts.rest.polled ≤ n) × IsSome (living_at self.now.natives.slots.items n) × ((s : State) → StandsFor self.now s → first_living s.killed (natives_of self.now - s.rest.polled) s.rest.polled ≡ Some n)) }
+        ensures none { result ≡ None → (s : State) → RefinesWithNatives self.now s → first_living s.killed (natives_of self.now - s.rest.polled) s.rest.polled ≡ None }
+        ensures some { IfSome result (λ n. (n < natives_of self.now) × (self.now.core.parts.rest.polled ≤ n) × IsSome (living_at self.now.natives.slots.items n) × ((s : State) → RefinesWithNatives self.now s → first_living s.killed (natives_of self.now - s.rest.polled) s.rest.polled ≡ Some n)) }
     {
         let mut native = self.core.rest().polled() as usize;
         while native < self.natives.count() {

@@ -8,11 +8,11 @@ use Rattle.std.proofs.Math.Nat.{le-max_left, le-max_right}
 use Rattle.aom_safety.proofs.SemanticsLemmas.{requested_unnamed}
 use Rattle.aom_safety.proofs.Redeeming.{requested_redeemed}
 use Rattle.aom_safety.proofs.Services.{service_asked}
-use Rattle.aom_safety.proofs.Storing.{requested_here, requested_there, rerequested_alike}
+use Rattle.aom_safety.proofs.Storing.{requested_here, requested_there, request_updated_alike}
 use Rattle.aom_semantics.specs.Requests.{on_request}
 use Rattle.aom_semantics.specs.Places.{Cell, Elsewhere, Object, Place, Request, Root, Service, requested, service_of, set_request}
-use Rattle.aom_semantics.specs.State.{Home, Inside}
-use Rattle.aom_semantics.specs.Tokens.{TokensApart, all_redeemed, awaited, handed_cells, handed_out, home_class, is_order, next_token}
+use Rattle.aom_semantics.specs.State.{Receiver, Inside}
+use Rattle.aom_semantics.specs.Tokens.{TokensApart, all_redeemed, awaited, handed_cells, handed_out, receiver_class, is_order, next_token}
 use Rattle.aom_semantics.specs.Tokens.{order_in, order_past, promised, redeemed_by, redeemed_request, redeemed_with, with_token}
 
 -- ---- one request, or none
@@ -39,18 +39,18 @@ module _ (cs : List Cell) (apart : TokensApart cs) (live_at object_at : ℕ → 
     awaited (requested cs n) ≡ Some k → (m : ℕ) × (live_at n ≡ Some m) × (order_in (service_of cs (4096 + m)).token ≡ Some k) × (object_at m ≡ Some n)) where
   pub void_waits_none : (m n k : ℕ) → order_in (service_of cs (4096 + m)).token ≡ Some k → object_at m ≡ Some n → (live_at n ≡ Some m → ⊥) → (x : ℕ) →
       awaited (requested cs x) ≡ Some k → ⊥
-  void_waits_none m n k told of void x e = grind (arith, nat_tests, same_Some x n)
+  void_waits_none m n k reported of void x e = grind (arith, nat_tests, same_Some x n)
 
   -- and one that is, is waited for by its object
   pub living_waits : (m n k : ℕ) → order_in (service_of cs (4096 + m)).token ≡ Some k → live_at n ≡ Some m → (j : ℕ) → awaited (requested cs n) ≡ Some j →
       awaited (requested cs n) ≡ Some k
-  living_waits m n k told live j e = grind (arith, nat_tests, same_Some j k)
+  living_waits m n k reported live j e = grind (arith, nat_tests, same_Some j k)
 
 -- ---- orders go, and none comes
 
 pub apart_fewer : (cs cs' : List Cell) → ((n k : ℕ) → awaited (requested cs' n) ≡ Some k → awaited (requested cs n) ≡ Some k) →
     ((n k : ℕ) → order_in (service_of cs' n).token ≡ Some k → order_in (service_of cs n).token ≡ Some k) → TokensApart cs → TokensApart cs'
-apart_fewer cs cs' waits told apart = search (arith, nat_tests)
+apart_fewer cs cs' waits reported apart = search (arith, nat_tests)
 
 -- ---- what a reply keeps
 
@@ -59,12 +59,12 @@ pub awaited_redeemed : (order : ℕ) (code : ℤ) (r : Option Request) (k : ℕ)
     (awaited r ≡ Some k) × ((order == k) ≡ false)
 awaited_redeemed order code r k e = grind (arith, nat_tests, ne_eqb order k, is_order_of order)
 
-pub told_as_before : (order : ℕ) (code : ℤ) (cs : List Cell) (n : ℕ) → service_of (all_redeemed order code cs) n ≡ service_of cs n
-told_as_before order code [] n = refl
-told_as_before order code (c ∷ cs) n = ap (λ v. cond (c.object.name == n) c.service v) (told_as_before order code cs n)
+pub reported_as_before : (order : ℕ) (code : ℤ) (cs : List Cell) (n : ℕ) → service_of (all_redeemed order code cs) n ≡ service_of cs n
+reported_as_before order code [] n = refl
+reported_as_before order code (c ∷ cs) n = ap (λ v. cond (c.object.name == n) c.service v) (reported_as_before order code cs n)
 
 pub redeemed_apart : (order : ℕ) (code : ℤ) (cs : List Cell) → TokensApart cs → TokensApart (all_redeemed order code cs)
-redeemed_apart order code cs = grind (arith, nat_tests, apart_fewer cs, requested_redeemed order code cs, told_as_before order code cs)
+redeemed_apart order code cs = grind (arith, nat_tests, apart_fewer cs, requested_redeemed order code cs, reported_as_before order code cs)
 
 pub redeemed_by_apart : (order : Option ℕ) (code : ℤ) (cs : List Cell) → TokensApart cs → TokensApart (redeemed_by order code cs)
 redeemed_by_apart x code cs apart = grind (arith, nat_tests, redeemed_apart)
@@ -78,9 +78,9 @@ pub past_waits : (cs : List Cell) (n k : ℕ) → awaited (requested cs n) ≡ S
 past_waits [] n k e = absurd (none-some _ e)
 past_waits (c ∷ cs) n k e = grind (arith, nat_tests, past_waits cs n k, past, le-max_left, le-max_right)
 
-pub past_told : (cs : List Cell) (n k : ℕ) → order_in (service_of cs n).token ≡ Some k → k < next_token cs
-past_told [] n k e = absurd (none-some _ e)
-past_told (c ∷ cs) n k e = grind (arith, nat_tests, past_told cs n k, past, le-max_left, le-max_right)
+pub past_reported : (cs : List Cell) (n k : ℕ) → order_in (service_of cs n).token ≡ Some k → k < next_token cs
+past_reported [] n k e = absurd (none-some _ e)
+past_reported (c ∷ cs) n k e = grind (arith, nat_tests, past_reported cs n k, past, le-max_left, le-max_right)
 
 -- a request that waits for the new order, and its token: the orders stay apart
 module _ (cs us : List Cell) (apart : TokensApart cs) (name asker class : ℕ) (owner : Place) (services : (n : ℕ) → service_of us n ≡ service_of cs n)
@@ -96,14 +96,14 @@ module _ (cs us : List Cell) (apart : TokensApart cs) (name asker class : ℕ) (
   its = handed_out (record { class = class; order = order })
 
   -- it is the new token, or was there before
-  tells : (n k : ℕ) → order_in (service_of vs n).token ≡ Some k → ((name ≡ n) × (k ≡ order)) ⊎ (order_in (service_of cs n).token ≡ Some k)
-  tells n k e = grind (arith, nat_tests, eqb-true name n, same_Some)
+  reports : (n k : ℕ) → order_in (service_of vs n).token ≡ Some k → ((name ≡ n) × (k ≡ order)) ⊎ (order_in (service_of cs n).token ≡ Some k)
+  reports n k e = grind (arith, nat_tests, eqb-true name n, same_Some)
 
-  both_tell : (n m k : ℕ) → order_in (service_of vs n).token ≡ Some k → order_in (service_of vs m).token ≡ Some k → n ≡ m
-  both_tell n m k e f = grind (arith, nat_tests, tells n k e, tells m k f, past_told cs m k, past_told cs n k)
+  both_report : (n m k : ℕ) → order_in (service_of vs n).token ≡ Some k → order_in (service_of vs m).token ≡ Some k → n ≡ m
+  both_report n m k e f = grind (arith, nat_tests, reports n k e, reports m k f, past_reported cs m k, past_reported cs n k)
 
   token_apart : TokensApart vs
-  token_apart = record { waits = λ n m k e f. grind (arith, nat_tests, past_waits); told = both_tell }
+  token_apart = record { waits = λ n m k e f. grind (arith, nat_tests, past_waits); reported = both_report }
 
 -- whatever is at work asks for the new order, or nothing does
 module _ (cs : List Cell) (o : Object) (r : Option Request) (order : ℕ) (promises : (k : ℕ) → awaited r ≡ Some k → k ≡ order) where
@@ -112,15 +112,15 @@ module _ (cs : List Cell) (o : Object) (r : Option Request) (order : ℕ) (promi
     arith,
     nat_tests,
     requested_unnamed,
-    rerequested_alike cs (Inside o (Elsewhere Root)) r,
+    request_updated_alike cs (Inside o (Elsewhere Root)) r,
     requested_here cs o.name r,
     eqb-true o.name n,
     requested_there cs o.name n r,
   )
 
-pub handed_apart : (name : ℕ) (home : Home) (owner : Place) (cs : List Cell) → TokensApart cs → TokensApart (handed_cells name home owner cs)
+pub handed_apart : (name : ℕ) (receiver : Receiver) (owner : Place) (cs : List Cell) → TokensApart cs → TokensApart (handed_cells name receiver owner cs)
 handed_apart name (Inside o from) owner cs apart =
     let r = on_request (promised (next_token cs)) (requested cs o.name) in
-    token_apart cs (set_request o.name r cs) apart name o.name (home_class (Inside o from)) owner (service_asked cs o.name r)
+    token_apart cs (set_request o.name r cs) apart name o.name (receiver_class (Inside o from)) owner (service_asked cs o.name r)
     (asks_anew cs o r (next_token cs) (grind (arith, nat_tests, same_Some)))
 handed_apart name x owner cs apart = grind (arith, nat_tests, token_apart cs cs apart name name)

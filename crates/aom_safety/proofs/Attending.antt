@@ -2,11 +2,11 @@
 use Rattle.std.proofs.lemmas.Bool.Decides.{nat_tests}
 use Rattle.std.proofs.Common.{List, Bool, cond, false, true, ℕ, ◌≡◌, arith}
 use Rattle.aom_image.specs.Image.{Image}
-use Rattle.aom_shape.specs.Shape.{Shape}
-use Rattle.aom_shape.specs.declared.kind.Kind.{Kind}
-use Rattle.aom_shape.specs.declared.kind.Kind.TheVariants.{Null, Own}
-use Rattle.aom_shape.specs.Kinds.{is_ready_kind}
-use Rattle.aom_shape.specs.declared.kind.Age.TheVariants.{Ready}
+use Rattle.aom_abstract_state.specs.AbstractState.{AbstractState}
+use Rattle.aom_abstract_state.specs.declared.kind.Kind.{Kind}
+use Rattle.aom_abstract_state.specs.declared.kind.Kind.TheVariants.{Null, Own}
+use Rattle.aom_abstract_state.specs.Kinds.{is_ready_kind}
+use Rattle.aom_abstract_state.specs.declared.kind.InitState.TheVariants.{Ready}
 use Rattle.aom_image.specs.declared.method.Thing.TheVariants.{Message}
 use Rattle.aom_safety.specs.Claims.{Layer, claim, delivered, serves}
 use Rattle.aom_safety.specs.WellTyped.{IsServed}
@@ -17,7 +17,7 @@ use Rattle.aom_semantics.specs.Places.{Elsewhere, In_service, Place, Session}
 pub called_plain : (p : Image) (m : ℕ) → IsCalled p m → serves p m ≡ false
 called_plain p m c = grind (arith, nat_tests)
 
-pub plain_claim : (b : Bool) (sh : Shape) (below : Kind) → b ≡ false → cond b (delivered sh.delivery) below ≡ below
+pub plain_claim : (b : Bool) (sh : AbstractState) (below : Kind) → b ≡ false → cond b (delivered sh.message_state) below ≡ below
 plain_claim x sh below e = grind arith
 
 -- the layers below a method that serves claim the message

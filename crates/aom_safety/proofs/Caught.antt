@@ -6,29 +6,29 @@ use Rattle.std.specs.Prelude.{is_some, ◌++◌}
 use Rattle.aom_image.specs.Image.{Image}
 use Rattle.aom_image.specs.Views.{action_at, gives_of, instr_at}
 use Rattle.aom_instructions.specs.declared.action.Action.TheVariants.{Call, Push}
-use Rattle.aom_instructions.specs.declared.action.Manner.TheVariants.{Trapped as Under_trap}
+use Rattle.aom_instructions.specs.declared.action.CallMode.TheVariants.{Trapped as Under_trap}
 use Rattle.aom_instructions.specs.declared.instr.Instr.{Instr}
 use Rattle.aom_instructions.specs.declared.instr.Target.{Target}
 use Rattle.aom_image.specs.declared.method.Gives.{Gives}
 use Rattle.aom_image.specs.declared.method.Gives.TheVariants.{Maybe as A_maybe, Own as An_own, Word as A_word}
 use Rattle.aom_roles.specs.Tests.{AllTrue}
-use Rattle.aom_shape.specs.Kinds.{is_unowning, register}
-use Rattle.aom_shape.specs.Shape.{Shape}
-use Rattle.aom_rules.specs.Typing.{IsTyped, Typing}
-use Rattle.aom_shape.specs.declared.kind.CleanupEntry.{CleanupEntry}
+use Rattle.aom_abstract_state.specs.Kinds.{is_unowning, register}
+use Rattle.aom_abstract_state.specs.AbstractState.{AbstractState}
+use Rattle.aom_typing_rules.specs.Typing.{IsTyped, Typing}
+use Rattle.aom_abstract_state.specs.declared.kind.CleanupEntry.{CleanupEntry}
 use Rattle.aom_safety.proofs.Claimed.{claim_entry_above, claim_going_above}
 use Rattle.aom_safety.proofs.Clearing.{begins_over}
 use Rattle.aom_safety.proofs.Fitting.{fits, leaves_so, off_of}
 use Rattle.aom_safety.proofs.Items.{length_forms, no_mark}
 use Rattle.aom_safety.proofs.Guarded.{acts_at, goes_same, guarded_goes, guarded_met}
-use Rattle.aom_safety.proofs.SemanticsLemmas.{at-put_at, held_moved, same_place-true, same_place_refl}
+use Rattle.aom_safety.proofs.SemanticsLemmas.{at-set_extending, held_moved, same_place-true, same_place_refl}
 use Rattle.aom_safety.proofs.Straight.{claim_register, fits_unowning}
 use Rattle.aom_semantics.specs.Calls.{callee_of, called, given_by, result_of, result_register}
 use Rattle.aom_safety.specs.Claims.{Dispatching, Form, Layer, Mark, Mark_form, Method, Unwinding, declared, forms, items_of, objects, tasks_of}
-use Rattle.aom_semantics.specs.Cleanup.{arrival, arrived, code_told, destroyed, has_trap, operation_frame, to_trap, unwound}
+use Rattle.aom_semantics.specs.Cleanup.{arrival, arrived, code_reported, destroyed, has_trap, operation_frame, to_trap, unwound}
 use Rattle.aom_safety.specs.Laws.{IsWired}
 use Rattle.aom_safety.specs.Leaves.{AreEntries, AreMethods, Arrives, ArrivesAt, Begins, HasMoved}
-use Rattle.aom_safety.specs.Leaves.{HasPushed, Hears, IsBegun, IsLeaving, IsOver, LeavesWith, PushedBy}
+use Rattle.aom_safety.specs.Leaves.{HasPushed, Observes, IsBegun, IsLeaving, IsOver, LeavesWith, PushedBy}
 use Rattle.aom_semantics.specs.Moves.{announcement, counted, does, needs, step, written_task}
 use Rattle.aom_semantics.specs.Places.{Cell, Entry, Going, Object, Place, Register, held, moved, named, same_place, seen}
 use Rattle.aom_semantics.specs.State.{A_mark, An_object, An_operation, Choice, Dispatch, Dispatched, Frame}
@@ -67,7 +67,7 @@ splits p t s w code below at =
     under : (es : List CleanupEntry) (ls : List Layer) → forms s.items ≡ objects es (items_of ls) → Stack p t s.cells Leaves ls →
         (entries : List Item) × (items : List Item) × (s.items ≡ entries ++ (A_mark ∷ items)) × AreEntries entries
     under es (Mark gv ∷ ls) f stack = split es (items_of ls) s.items f
-    under es (Dispatching d seats ∷ ls) f stack = no_dispatch p d stack.0
+    under es (Dispatching d owned_chain ∷ ls) f stack = no_dispatch p d stack.0
     under es _ f stack = grind arith
 
     go : (ls : List Layer) → Unwind code ∷ below ≡ tasks_of ls → forms s.items ≡ items_of ls → Stack p t s.cells Now ls →
@@ -111,7 +111,7 @@ trapping _ e = cc
 is_there : {A : Type 0} (x : Option A) → is_some x ≡ true → (y : A) × (x ≡ Some y)
 is_there x e = grind arith
 
-module _ (p : Image) (t : Typing) (c : Choice) (fr : Frame) (ts : List Task) (s u : State) (at_hand : s.tasks ≡ Run fr ∷ ts) (w : WellTyped p t s)
+module _ (p : Image) (t : Typing) (c : Choice) (fr : Frame) (ts : List Task) (s u : State) (has_task : s.tasks ≡ Run fr ∷ ts) (w : WellTyped p t s)
     (keeps : WellTyped p t u) where
   -- the leave is at hand over the innermost trap
   begins_at : (i : Instr) (code : ℤ) (off : Update) → has_trap ts ≡ true → applied p fr ts (counted p s) (Leaves code off) ≡ u →
@@ -123,7 +123,7 @@ module _ (p : Image) (t : Typing) (c : Choice) (fr : Frame) (ts : List Task) (s 
       record {
         methods = Run fr ∷ r.methods;
         below = r.below;
-        tasks = at_hand ∙ ap (λ l. Run fr ∷ l) r.all;
+        tasks = has_task ∙ ap (λ l. Run fr ∷ l) r.all;
         over = r.over;
         entries = found.0;
         items = found.1;
@@ -161,7 +161,7 @@ none_on_its_way : (p : Image) (t : Typing) (s : State) → WellTyped p t s → (
 none_on_its_way p t s w ts at = grind (arith, nat_tests, fits_unowning p, claim_going_above p s.cells w.layers)
 
 module _ (p : Image) (t : Typing) (wired : IsWired p) (s u : State) (w : WellTyped p t s) (code : ℤ) (below : List Task)
-    (at_hand : s.tasks ≡ Unwind code ∷ below) where
+    (has_task : s.tasks ≡ Unwind code ∷ below) where
   -- what is made of the item on top, with these below it
   abbrev Dealt : Item → List Item → State → Type 0
   Dealt i rest v = IsOver p (length v.items) code below v.tasks × (v.items ≡ rest) × IsBegun p (Unwind code ∷ below) i (length rest) s v
@@ -171,7 +171,7 @@ module _ (p : Image) (t : Typing) (wired : IsWired p) (s u : State) (w : WellTyp
   of_object rest some =
       let o = is_there (held s.cells (Entry (length rest))) some in
       let g = Going (length (Unwind code ∷ below)) in
-      let free = none_on_its_way p t s w (Unwind code ∷ below) at_hand in
+      let free = none_on_its_way p t s w (Unwind code ∷ below) has_task in
       rw o.1 (
         begins_over p wired o.0 (length rest) code below (Unwind code ∷ below) (refl, refl),
         refl,
@@ -180,12 +180,12 @@ module _ (p : Image) (t : Typing) (wired : IsWired p) (s u : State) (w : WellTyp
 
   of_item : AllUndo p s.items → (i : Item) (rest es : List Item) → s.items ≡ i ∷ rest → AreEntries (i ∷ es) →
       unwound p code below (counted p s) (i ∷ rest) ≡ Goes u → Dealt i rest u
-  of_item undos (An_operation m x) rest es same plain e =
+  of_item undo_operations (An_operation m x) rest es same plain e =
       let fr = operation_frame m x (length rest) in
-      let undo = subst (λ l. AllUndo p l) same undos in
+      let undo = subst (λ l. AllUndo p l) same undo_operations in
       subst (λ v. Dealt (An_operation m x) rest v) (goes_same (record (counted p s) { tasks = Run fr ∷ Unwind code ∷ below; items = rest }) u e)
       ((undo.0.quiet, refl, (refl, refl)), refl, (fr, refl, refl, refl, refl, refl))
-  of_item undos x rest es same plain e = grind (arith, nat_tests, guarded_goes, of_object rest, guarded_met)
+  of_item undo_operations x rest es same plain e = grind (arith, nat_tests, guarded_goes, of_object rest, guarded_met)
 
 others : (i : Item) (rest : List Item) → AreEntries (i ∷ rest) → AreEntries rest
 others x rest h = grind arith
@@ -196,40 +196,40 @@ pub deals : (p : Image) (t : Typing) → IsWired p → (c : Choice) (s u : State
 deals p t wired c s u w code below i rest items l at e =
     let all = rest ++ (A_mark ∷ items) in
     let e' : unwound p code below (counted p s) (i ∷ all) ≡ Goes u = grind (arith, nat_tests, below) in
-    let d = of_item p t wired s u w code below at w.undos i all rest l.stack l.plain e' in
+    let d = of_item p t wired s u w code below at w.undo_operations i all rest l.stack l.plain e' in
     (record { over = d.0; stack = d.1; plain = others i rest l.plain }, d.2)
 
 -- ---- the arrival
 
 pub own_word : (fr : Frame) (a : ℕ) (w : Option ℤ) → word (set_word fr a w) a ≡ w
-own_word fr a w = at-put_at None fr.words a a w ∙ ap (λ b. cond b w (word fr a)) (eq-eqb a a refl)
+own_word fr a w = at-set_extending None fr.words a a w ∙ ap (λ b. cond b w (word fr a)) (eq-eqb a a refl)
 
 other_word : (fr : Frame) (a r : ℕ) (w : Option ℤ) → a ≢ r → word (set_word fr a w) r ≡ word fr r
-other_word fr a r w differs = at-put_at None fr.words a r w ∙ ap (λ b. cond b w (word fr r)) (ne_eqb a r differs)
+other_word fr a r w differs = at-set_extending None fr.words a r w ∙ ap (λ b. cond b w (word fr r)) (ne_eqb a r differs)
 
 -- the frame that hears of a leave: its words
 module _ (c : ℕ) (code : ℤ) (fr : Frame) where
   next_register : suc c ≢ c
   next_register e = absurd (omega (arith, e))
 
-  told_code : (g : Gives) → word (code_told g c code fr) (suc c) ≡ Some code
-  told_code A_word = own_word (set_word fr c (Some (pos 0))) (suc c) (Some code)
-  told_code (An_own t) = own_word (set_word fr c None) (suc c) (Some code)
-  told_code (A_maybe t) = own_word (set_word fr c None) (suc c) (Some code)
-  told_code _ = own_word fr (suc c) (Some code)
+  reported_code : (g : Gives) → word (code_reported g c code fr) (suc c) ≡ Some code
+  reported_code A_word = own_word (set_word fr c (Some (pos 0))) (suc c) (Some code)
+  reported_code (An_own t) = own_word (set_word fr c None) (suc c) (Some code)
+  reported_code (A_maybe t) = own_word (set_word fr c None) (suc c) (Some code)
+  reported_code _ = own_word fr (suc c) (Some code)
 
-  told_both : (w : Option ℤ) (r : ℕ) → c ≢ r → suc c ≢ r → word (set_word (set_word fr c w) (suc c) (Some code)) r ≡ word fr r
-  told_both w r n m = other_word (set_word fr c w) (suc c) r (Some code) m ∙ other_word fr c r w n
+  reported_both : (w : Option ℤ) (r : ℕ) → c ≢ r → suc c ≢ r → word (set_word (set_word fr c w) (suc c) (Some code)) r ≡ word fr r
+  reported_both w r n m = other_word (set_word fr c w) (suc c) r (Some code) m ∙ other_word fr c r w n
 
-  told_first : (w : Option ℤ) → word (set_word (set_word fr c w) (suc c) (Some code)) c ≡ w
-  told_first w = other_word (set_word fr c w) (suc c) c (Some code) next_register ∙ own_word fr c w
+  reported_first : (w : Option ℤ) → word (set_word (set_word fr c w) (suc c) (Some code)) c ≡ w
+  reported_first w = other_word (set_word fr c w) (suc c) c (Some code) next_register ∙ own_word fr c w
 
-  pub told_frame : (g : Gives) → record (next (code_told g c code fr)) { words = fr.words } ≡ next fr
-  told_frame x = grind arith
+  pub reported_frame : (g : Gives) → record (next (code_reported g c code fr)) { words = fr.words } ≡ next fr
+  reported_frame x = grind arith
 
-  hears : (g : Gives) (cs : List Cell) (depth : ℕ) (sh : Shape) → Awaits g c sh → is_unowning (register sh (suc c)) ≡ true →
-      ((r : ℕ) → is_unowning (register sh r) ≡ true → held cs (Register depth r) ≡ None) → Hears code g c cs depth fr (next (code_told g c code fr))
-  hears g cs depth sh a unowning free = search (arith, nat_tests, told_code g, other_word, next_register, told_first, others, told_both, told_frame g)
+  observes : (g : Gives) (cs : List Cell) (depth : ℕ) (sh : AbstractState) → Awaits g c sh → is_unowning (register sh (suc c)) ≡ true →
+      ((r : ℕ) → is_unowning (register sh r) ≡ true → held cs (Register depth r) ≡ None) → Observes code g c cs depth fr (next (code_reported g c code fr))
+  observes g cs depth sh a unowning free = search (arith, nat_tests, reported_code g, other_word, next_register, reported_first, others, reported_both, reported_frame g)
 
 module _ (p : Image) (t : Typing) (s u : State) (code : ℤ) (items : List Item) where
   -- where it arrives, and what stays
@@ -237,14 +237,14 @@ module _ (p : Image) (t : Typing) (s u : State) (code : ℤ) (items : List Item)
   Arrived below v = ArrivesAt p code below v × (v.items ≡ items) × (v.cells ≡ s.cells)
 
   -- at the method that set the trap, where its registers wait
-  at_method : (fr : Frame) (sh : Shape) (ls : List Layer) (gv : Gives) (es : List CleanupEntry) →
+  at_method : (fr : Frame) (sh : AbstractState) (ls : List Layer) (gv : Gives) (es : List CleanupEntry) →
       Good p t s.cells (Unwinding code es ∷ Mark gv ∷ Method fr sh ∷ ls) → Arrived (Trapped ∷ Run fr ∷ tasks_of ls) (record (counted p s) {
-        tasks = Run (next (code_told (called p (instr_at p fr.method fr.place)) (result_register (instr_at p fr.method fr.place)) code fr)) ∷ tasks_of ls;
+        tasks = Run (next (code_reported (called p (instr_at p fr.method fr.place)) (result_register (instr_at p fr.method fr.place)) code fr)) ∷ tasks_of ls;
         items = items;
       })
   at_method fr sh ls gv es good =
       let i = instr_at p fr.method fr.place in
-      ((next (code_told (called p i) (result_register i) code fr), refl, λ target m first c there. by_trap target m first c there), refl, refl)
+      ((next (code_reported (called p i) (result_register i) code fr), refl, λ target m first c there. by_trap target m first c there), refl, refl)
     where
       free : (r : ℕ) → is_unowning (register sh r) ≡ true → held s.cells (Register (length (tasks_of ls)) r) ≡ None
       free r unowning =
@@ -255,12 +255,12 @@ module _ (p : Image) (t : Typing) (s u : State) (code : ℤ) (items : List Item)
           Awaits gv (result_register (instr_at p fr.method fr.place)) sh
       waits = (good.stack.1.1.0.0, good.stack.1.1.0.1, good.stack.1.1.0.2)
 
-      by_trap : (target : Target) (m first c : ℕ) → action_at p fr.method fr.place ≡ Some (Call Under_trap target m first c) → Hears code (gives_of p m) c s.cells
-          (length (tasks_of ls)) fr (next (code_told (called p (instr_at p fr.method fr.place)) (result_register (instr_at p fr.method fr.place)) code fr))
+      by_trap : (target : Target) (m first c : ℕ) → action_at p fr.method fr.place ≡ Some (Call Under_trap target m first c) → Observes code (gives_of p m) c s.cells
+          (length (tasks_of ls)) fr (next (code_reported (called p (instr_at p fr.method fr.place)) (result_register (instr_at p fr.method fr.place)) code fr))
       by_trap target m first c there = let w =
           subst (λ a. (given_by p (callee_of a) ≡ gv) × (is_unowning (register sh (suc (result_of a))) ≡ true) × Awaits gv (result_of a) sh) there waits in
-          subst (λ a. Hears code (gives_of p m) c s.cells (length (tasks_of ls)) fr (next (code_told (given_by p (callee_of a)) (result_of a) code fr))) (sym there)
-          (hears c code fr (gives_of p m) s.cells (length (tasks_of ls)) sh (subst (λ g. Awaits g c sh) (sym w.0) w.2) w.1 free)
+          subst (λ a. Observes code (gives_of p m) c s.cells (length (tasks_of ls)) fr (next (code_reported (given_by p (callee_of a)) (result_of a) code fr))) (sym there)
+          (observes c code fr (gives_of p m) s.cells (length (tasks_of ls)) sh (subst (λ g. Awaits g c sh) (sym w.0) w.2) w.1 free)
 
   below_trap : (ls : List Layer) (gv : Gives) (es : List CleanupEntry) → Good p t s.cells (Unwinding code es ∷ Mark gv ∷ ls) →
       arrived p code (Trapped ∷ tasks_of ls) items (counted p s) ≡ Goes u → Arrived (Trapped ∷ tasks_of ls) u
@@ -270,7 +270,7 @@ module _ (p : Image) (t : Typing) (s u : State) (code : ℤ) (items : List Item)
   below_leave : (ls : List Layer) (es : List CleanupEntry) → Good p t s.cells (Unwinding code es ∷ ls) →
       arrived p code (tasks_of ls) items (counted p s) ≡ Goes u → Arrived (tasks_of ls) u
   below_leave (Mark gv ∷ ls) es good e = below_trap ls gv es good e
-  below_leave (Dispatching d seats ∷ ls) es good e = no_dispatch p d good.stack.1.0
+  below_leave (Dispatching d owned_chain ∷ ls) es good e = no_dispatch p d good.stack.1.0
   below_leave _ es good e = grind arith
 
   by_layers : (below : List Task) (ls : List Layer) → tasks_of ls ≡ Unwind code ∷ below → Good p t s.cells ls →

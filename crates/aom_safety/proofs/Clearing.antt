@@ -11,11 +11,11 @@ use Rattle.aom_image.specs.Views.{method_class}
 use Rattle.aom_instructions.specs.declared.instr.Instr.{Instr}
 use Rattle.aom_roles.specs.Tests.{AllTrue}
 use Rattle.aom_roles.specs.Families.{parent_by}
-use Rattle.aom_shape.specs.Kinds.{no_entry}
-use Rattle.aom_rules.specs.Rules.{rule_needs}
-use Rattle.aom_shape.specs.Shape.{Shape}
-use Rattle.aom_rules.specs.Typing.{IsTyped, Typing, shape_at}
-use Rattle.aom_shape.specs.declared.kind.CleanupEntry.{CleanupEntry}
+use Rattle.aom_abstract_state.specs.Kinds.{no_entry}
+use Rattle.aom_typing_rules.specs.Rules.{rule_needs}
+use Rattle.aom_abstract_state.specs.AbstractState.{AbstractState}
+use Rattle.aom_typing_rules.specs.Typing.{IsTyped, Typing, shape_at}
+use Rattle.aom_abstract_state.specs.declared.kind.CleanupEntry.{CleanupEntry}
 use Rattle.aom_safety.proofs.Callees.{cancel_quiet, only_then}
 use Rattle.aom_safety.proofs.Overriders.{body_quiet}
 use Rattle.aom_safety.proofs.Claimed.{length_objects}
@@ -26,15 +26,15 @@ use Rattle.aom_safety.proofs.Moving.{steps_are_moves}
 use Rattle.aom_safety.proofs.Preserving.{receives}
 use Rattle.aom_safety.specs.Claims.{Form, Layer, Method, forms, items_of, objects, tasks_of}
 use Rattle.aom_semantics.specs.Cleanup.{has_trap}
-use Rattle.aom_classes.specs.Roles.{role_of}
+use Rattle.aom_link_conditions.specs.Roles.{role_of}
 use Rattle.aom_semantics.specs.Destruction.{class_destructor, line_on, destructed, begun, begun_by}
 use Rattle.aom_semantics.specs.Effects.{Effect, Update, applied, items_after}
 use Rattle.aom_safety.specs.Laws.{IsWired}
 use Rattle.aom_safety.specs.Leaves.{IsLeaving, IsOver}
 use Rattle.aom_semantics.specs.Moves.{counted, step}
 use Rattle.aom_semantics.specs.Places.{Cell, Object}
-use Rattle.aom_semantics.specs.State.{Static, Inside, AtRoot, Home, Choice, Frame, Goes, Item, Run, State, Task, Unwind}
-use Rattle.aom_safety.specs.Steps.{Empties, Acts, Arrives, Clears, Comes_out, Ends, Fits, FitsUpdate, Move, Rests, Undoes, Vanishes}
+use Rattle.aom_semantics.specs.State.{Static, Inside, AtRoot, Receiver, Choice, Frame, Goes, Item, Run, State, Task, Unwind}
+use Rattle.aom_safety.specs.Steps.{Empties, Acts, Arrives, Clears, Comes_out, Ends, Fits, FitsUpdate, Move, Rests, Undoes, Reclaims}
 use Rattle.aom_safety.specs.WellTyped.{Good, WellTyped}
 
 -- a leave that is begun over it finds no trap
@@ -48,8 +48,8 @@ destructs_over : (p : Image) → IsWired p → (o : Object) (height : ℕ) (code
 destructs_over p wired o height code below ts h = grind (arith, nat_tests, destroys p wired o.thing)
 
 -- and the next of its line
-line_over : (p : Image) → IsWired p → (m : ℕ) (home : Home) (height : ℕ) (code : ℤ) (below ts : List Task) →
-    IsOver p height code below ts → IsOver p height code below (line_on p m home height ts)
+line_over : (p : Image) → IsWired p → (m : ℕ) (receiver : Receiver) (height : ℕ) (code : ℤ) (below ts : List Task) →
+    IsOver p height code below ts → IsOver p height code below (line_on p m receiver height ts)
 line_over p wired m Static height code below ts h = h
 line_over p wired m AtRoot height code below ts h = h
 line_over p wired m (Inside o from) height code below ts h = go (parent_by p (method_class p m))
@@ -72,13 +72,13 @@ no_entries [] below e = refl
 no_entries (x ∷ es) below e = absurd (omega (arith, e, length_objects es below))
 
 bare_shape : (p : Image) (t : Typing) (cs : List Cell) (fr : Frame) (ts : List Task) (items : List Item) (ls : List Layer) → Run fr ∷ ts ≡ tasks_of ls →
-    forms items ≡ items_of ls → fr.height ≡ length items → Good p t cs ls → (sh : Shape) × (shape_at t fr.method fr.place ≡ Some sh) × (sh.entries ≡ [])
+    forms items ≡ items_of ls → fr.height ≡ length items → Good p t cs ls → (sh : AbstractState) × (shape_at t fr.method fr.place ≡ Some sh) × (sh.entries ≡ [])
 bare_shape p t cs fr ts items (Method fr' sh ∷ ls) at f h good = grind (arith, nat_tests, length_forms items, no_entries sh.entries)
 bare_shape p t cs fr ts items _ at f h good = cc
 
 -- a method's move
-module _ (p : Image) (wired : IsWired p) (c : Choice) (fr : Frame) (sh : Shape) (ts : List Task) (s : State)
-    (at_hand : s.tasks ≡ Run fr ∷ ts) (code : ℤ) (below : List Task) (h : IsOver p (length s.items) code below (Run fr ∷ ts)) (bare : sh.entries ≡ []) where
+module _ (p : Image) (wired : IsWired p) (c : Choice) (fr : Frame) (sh : AbstractState) (ts : List Task) (s : State)
+    (has_task : s.tasks ≡ Run fr ∷ ts) (code : ℤ) (below : List Task) (h : IsOver p (length s.items) code below (Run fr ∷ ts)) (bare : sh.entries ≡ []) where
   abbrev Kept : State → Type 0
   Kept u = IsOver p (length s.items) code below u.tasks × (u.items ≡ s.items)
 
@@ -117,7 +117,7 @@ module _ (p : Image) (t : Typing) (wired : IsWired p) (typed : IsTyped p t) (c :
       let x = typed.each fr.method fr.place stands.0 stands.1 in
       let is : x.instr ≡ i = same_Some x.instr i (sym x.stands ∙ there) in
       subst Stays (sym same) (acts_kept p wired c fr stands.0 ts (counted p s) at code below h stands.2 i e (rw is at x.needs) fits)
-  kept (Vanishes ts o at there owns same) = subst Stays (sym same) (grind arith, refl)
+  kept (Reclaims ts o at there owns same) = subst Stays (sym same) (grind arith, refl)
   kept (Empties ts o at there same) = grind (arith, nat_tests, destructs_over, begins_over)
   kept (Clears x ts items o at top there same) = absurd (at_leave x ts at)
   kept (Undoes x ts items m y at top same) = absurd (at_leave x ts at)

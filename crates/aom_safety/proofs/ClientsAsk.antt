@@ -18,19 +18,19 @@ use Rattle.aom_roles.specs.Classes.{sessions_in, sessions_of}
 use Rattle.aom_roles.specs.Shapes.{kind_of}
 use Rattle.aom_safety.proofs.ClientsFit.{Changes, IsFree, by_server, fit_reserved, listed_changed, none_of_free, sessions_changed}
 use Rattle.aom_safety.proofs.Queues.{client_here, none_passes, queue_last, queue_other}
-use Rattle.aom_safety.proofs.Seated.{seats_asked}
+use Rattle.aom_safety.proofs.OwnedPlaced.{owned_objects_asked}
 use Rattle.aom_semantics.specs.Clients.{Listed, among_listed, asked_of, asked_server, client_at, earlier, first_listed, is_of_class, most_of, with_client}
 use Rattle.aom_semantics.specs.Requests.{thing_kind}
 use Rattle.aom_safety.specs.Kept.{ClientsFit, EntryFits, QueueFits, is_connect_of, is_message_of, asked_again}
-use Rattle.aom_semantics.specs.Places.{Asked, Cell, Connect_of, Message_of, Object, Request, Service, Tidy, named, service_of, requested}
-use Rattle.aom_semantics.specs.Servers.{asked_last, has_session, is_from, is_message, is_server, reserved, seats_taken}
+use Rattle.aom_semantics.specs.Places.{Asked, Cell, Connect_of, Message_of, Object, Request, Service, NoDuplicates, named, service_of, requested}
+use Rattle.aom_semantics.specs.Servers.{asked_last, has_session, is_from, is_message, is_server, reserved, sessions_in_use}
 
 -- ---- the server that is asked stands, and is one
 
 abbrev pub IsListed : ℕ → List Cell → Listed → Type 0
 IsListed class cs x = (o : Object) × (o.name ≡ x.name) × (named cs o.name ≡ Some o) × (is_of_class class o.thing ≡ true) × (is_some (requested cs o.name) ≡ true)
 
-module _ (class : ℕ) (c : Cell) (cs : List Cell) (t : Tidy (c ∷ cs)) (x : Listed) (rest : first_listed class cs ≡ Some x → IsListed class cs x) where
+module _ (class : ℕ) (c : Cell) (cs : List Cell) (t : NoDuplicates (c ∷ cs)) (x : Listed) (rest : first_listed class cs ≡ Some x → IsListed class cs x) where
   later : IsListed class cs x → IsListed class (c ∷ cs) x
   later l = grind (arith, nat_tests, ne_eqb c.object.name l.0.name)
 
@@ -61,7 +61,7 @@ module _ (class : ℕ) (c : Cell) (cs : List Cell) (t : Tidy (c ∷ cs)) (x : Li
   of_request : (r : Option Request) → c.request ≡ r → among_listed class c.object r (first_listed class cs) ≡ Some x → IsListed class (c ∷ cs) x
   of_request y is e = grind (arith, nat_tests, among, of_class)
 
-pub listed_there : (class : ℕ) (cs : List Cell) (x : Listed) → Tidy cs → first_listed class cs ≡ Some x → IsListed class cs x
+pub listed_there : (class : ℕ) (cs : List Cell) (x : Listed) → NoDuplicates cs → first_listed class cs ≡ Some x → IsListed class cs x
 listed_there class [] x t e = cc
 listed_there class (c ∷ cs) x t e = of_request class c cs t x (λ e. listed_there class cs x t.2 e) c.request refl e
 
@@ -69,7 +69,7 @@ listed_there class (c ∷ cs) x t e = of_request class c cs t x (λ e. listed_th
 asked_listed : (p : Image) (class : ℕ) (cs : List Cell) (x : Listed) → asked_server p class cs ≡ Some x → first_listed class cs ≡ Some x
 asked_listed p class cs x = grind (arith, nat_tests)
 
-pub asked_there : (p : Image) (class : ℕ) (cs : List Cell) (x : Listed) → Tidy cs → asked_server p class cs ≡ Some x → IsListed class cs x
+pub asked_there : (p : Image) (class : ℕ) (cs : List Cell) (x : Listed) → NoDuplicates cs → asked_server p class cs ≡ Some x → IsListed class cs x
 asked_there p class cs x t e = listed_there class cs x t (asked_listed p class cs x e)
 
 -- a class that takes sessions is of servers
@@ -82,12 +82,12 @@ listed_serves p class n x of room = grind (arith, eqb-true, takes_some)
 
 -- and so it has a seat left
 pub listed_room : (p : Image) (class : ℕ) (v : Service) (x : Thing) → is_of_class class x ≡ true →
-    nat_lt (seats_taken v) (most_of (kind_of p (Some class))) ≡ true → seats_taken v < most_of (thing_kind p x)
+    nat_lt (sessions_in_use v) (most_of (kind_of p (Some class))) ≡ true → sessions_in_use v < most_of (thing_kind p x)
 listed_room p class v x of room = grind (arith, eqb-true, ltb-true)
 
 -- a connect that is not refused
 pub asked_none : (r : Option CommandRefusal) (most : ℕ) (x : Listed) (cs : List Cell) → asked_of r most (Some x) cs ≡ None →
-    (r ≡ None) × (nat_lt (seats_taken (service_of cs x.name)) most ≡ true)
+    (r ≡ None) × (nat_lt (sessions_in_use (service_of cs x.name)) most ≡ true)
 asked_none y most x cs e = grind arith
 
 pub connects_free : (k : Client) → (row k).connect ≡ None → IsFree k
@@ -110,7 +110,7 @@ module _ (p : Image) (clients : List Client) (cs : List Cell) (fit : ClientsFit 
   -- with clients that are at what they were
   pub fit_asked : is_server p o.thing ≡ true → is_some (requested cs o.name) ≡ true → (e : Asked) → EntryFits clients o.name e →
       list_any (asked_again e) (service_of cs o.name).queue ≡ false → ((d m : ℕ) → is_message_of d m e ≡ true → is_from d (service_of cs m).sender ≡ true) →
-      seats_taken (asked_last e (service_of cs o.name)) ≤ most_of (thing_kind p o.thing) → ClientsFit p clients (reserved (asked_last e) o.name cs)
+      sessions_in_use (asked_last e (service_of cs o.name)) ≤ most_of (thing_kind p o.thing) → ClientsFit p clients (reserved (asked_last e) o.name cs)
   fit_asked serves listed e entry new own room = fit_reserved p clients cs fit o lives serves listed (asked_last e) clients refl refl (by_server cs o lives
       (asked_last e) (λ n v. QueueFits clients n v.queue) (queue_last clients o.name e (service_of cs o.name).queue entry new (fit.queues o.name))
       (λ n other. fit.queues n)) (by_server cs o lives (asked_last e) (λ n v. (d : ℕ) → has_session v d ≡ true → server_of (client_at clients d) ≡ Some n)
@@ -121,7 +121,7 @@ module _ (p : Image) (clients : List Client) (cs : List Cell) (fit : ClientsFit 
     (serves : is_server p o.thing ≡ true) (listed : is_some (requested cs o.name) ≡ true) (c : ℕ) where
   -- ---- a connect
 
-  pub fit_connecting : (slots : ℕ) → IsFree (client_at clients c) → seats_taken (service_of cs o.name) < most_of (thing_kind p o.thing) →
+  pub fit_connecting : (slots : ℕ) → IsFree (client_at clients c) → sessions_in_use (service_of cs o.name) < most_of (thing_kind p o.thing) →
       ClientsFit p (with_client c (Connecting o.name slots) clients) (reserved (asked_last (Connect_of c)) o.name cs)
   fit_connecting slots free room = fit_reserved p clients cs fit o lives serves listed (asked_last (Connect_of c)) (with_client c (Connecting o.name slots)
       clients) refl refl (by_server cs o lives (asked_last (Connect_of c)) (λ n v. QueueFits (with_client c (Connecting o.name slots) clients) n v.queue)
@@ -129,7 +129,7 @@ module _ (p : Image) (clients : List Client) (cs : List Cell) (fit : ClientsFit 
       (none_passes (is_connect_of c) clients o.name never (service_of cs o.name).queue (fit.queues o.name)) (queues o.name)) (λ n e. queues n))
       (sessions_changed p c (Connecting o.name slots) clients cs (reserved (asked_last (Connect_of c)) o.name cs) fit now)
       (listed_changed p c (Connecting o.name slots) clients cs (reserved (asked_last (Connect_of c)) o.name cs) fit now) (senders_asked p clients cs fit o lives
-      (Connect_of c) (λ d m h. cc)) (let one = seats_asked (Connect_of c) (service_of cs o.name) in omega (arith, room, one))
+      (Connect_of c) (λ d m h. cc)) (let one = owned_objects_asked (Connect_of c) (service_of cs o.name) in omega (arith, room, one))
     where
       queues : (n : ℕ) → QueueFits (with_client c (Connecting o.name slots) clients) n (service_of cs n).queue
       queues n = queue_other c n (Connecting o.name slots) clients (service_of cs n).queue
@@ -163,7 +163,7 @@ module _ (p : Image) (clients : List Client) (cs : List Cell) (fit : ClientsFit 
     arith,
     nat_tests,
     fit_asked p clients cs fit o lives serves listed (Message_of c m) open_there new,
-    seats_asked (Message_of c m),
+    owned_objects_asked (Message_of c m),
     eqb-true m,
     eqb-true c,
   )

@@ -13,17 +13,17 @@ use Rattle.aom_clients.specs.declared.refusal.CommandRefusal.{CommandRefusal}
 use Rattle.aom_roles.specs.Shapes.{kind_of}
 use Rattle.aom_safety.proofs.ClientsAsk.{asked_none, connects_free, fit_connecting, fit_sent, listed_room, listed_serves, asked_there}
 use Rattle.aom_safety.proofs.ClientsSteady.{fit_steady, steady_more}
-use Rattle.aom_safety.proofs.ClientsLeave.{empty, fit_told, fit_withdrawn, queue_leaving, queue_left, service_left}
+use Rattle.aom_safety.proofs.ClientsLeave.{empty, fit_reported, fit_withdrawn, queue_leaving, queue_left, service_left}
 use Rattle.aom_safety.proofs.SemanticsLemmas.{named_name}
 use Rattle.aom_safety.proofs.Queues.{client_here, none_passes, none_stays}
 use Rattle.aom_safety.proofs.Services.{service_unnamed}
-use Rattle.aom_safety.proofs.Sifted.{a_cell_of, cell_of, named_cell, named_sifted, service_cell, service_in, withdrawn_so}
+use Rattle.aom_safety.proofs.FilteredCells.{a_cell_of, cell_of, named_cell, named_filtered_cells, service_cell, service_in, withdrawn_so}
 use Rattle.aom_semantics.specs.Clients.{sent_message, asked_server, Listed, asked_of, client_at, commanded, connecting}
 use Rattle.aom_semantics.specs.Clients.{leaving, most_of, refusal, sending, with_client, with_message}
 use Rattle.aom_safety.specs.Kept.{ClientsFit, is_close_of, is_message_of}
 use Rattle.aom_semantics.specs.Places.{Asked, Cell, Close_of, Connect_of, Elsewhere, Message_of, Object}
-use Rattle.aom_semantics.specs.Places.{Queued, Tidy, held, named, service_of, set_service, requested}
-use Rattle.aom_semantics.specs.Servers.{asked_last, has_session, is_from, is_message, is_server, reserved, seats_taken, stays, withdrawn}
+use Rattle.aom_semantics.specs.Places.{Queued, NoDuplicates, held, named, service_of, set_service, requested}
+use Rattle.aom_semantics.specs.Servers.{asked_last, has_session, is_from, is_message, is_server, reserved, sessions_in_use, stays, withdrawn}
 use Rattle.aom_semantics.specs.State.{State}
 use Rattle.aom_transcript.specs.declared.event.ClientCommand.{ClientCommand}
 use Rattle.aom_transcript.specs.declared.event.ClientCommand.TheVariants.{Close, Connect, Die, Send}
@@ -40,7 +40,7 @@ none_named m (Message_of c k ∷ es) none =
     ap (λ b. b || list_any (λ e. is_message m e) es) (sym (ap (λ b. b && (k == m)) (eq-eqb c c refl)) ∙ own)
     ∙ none_named m es (λ d. (or_parts ((c == d) && (k == m)) (list_any (is_message_of d m) es) (none d)).1)
 
-module _ (p : Image) (c : ℕ) (s : State) (tidy : Tidy s.cells) (fit : ClientsFit p s.clients s.cells) where
+module _ (p : Image) (c : ℕ) (s : State) (no_duplicates : NoDuplicates s.cells) (fit : ClientsFit p s.clients s.cells) where
   abbrev own : Client
   own = client_at s.clients c
 
@@ -72,11 +72,11 @@ module _ (p : Image) (c : ℕ) (s : State) (tidy : Tidy s.cells) (fit : ClientsF
           (most_of (kind_of p (Some class))) x s.cells ≡ r → ClientsFit p (connecting p c s r x slots).clients (connecting p c s r x slots).cells
       go None (Some x) there e =
           let asked = asked_none (row own).connect (most_of (kind_of p (Some class))) x s.cells e in
-          let l = asked_there p class s.cells x tidy there in
+          let l = asked_there p class s.cells x no_duplicates there in
           subst (λ n. ClientsFit p (with_client c (Connecting n slots) s.clients) (reserved (asked_last (Connect_of c)) n s.cells)) l.1
           (fit_connecting p s.clients s.cells fit l.0 l.2 (listed_serves p class _ l.0.thing l.3 asked.1) l.4 c slots
           (connects_free own asked.0) (listed_room p class (service_of s.cells l.0.name) l.0.thing l.3
-          (ap (λ n. nat_lt (seats_taken (service_of s.cells n)) (most_of (kind_of p (Some class)))) l.1 ∙ asked.1)))
+          (ap (λ n. nat_lt (sessions_in_use (service_of s.cells n)) (most_of (kind_of p (Some class)))) l.1 ∙ asked.1)))
       go None None there e = fit
       go (Some r) x there e = fit
 
@@ -126,13 +126,13 @@ module _ (p : Image) (c : ℕ) (s : State) (tidy : Tidy s.cells) (fit : ClientsF
     -- with no session open
     goes_alone : (to : Client) → server_of to ≡ server_of own → ((n : ℕ) → is_leaving n own ≡ false) →
         ClientsFit p (with_client c to s.clients) (withdrawn c s.cells)
-    goes_alone to session stays = fit_withdrawn p s.clients s.cells tidy fit c waiting to session
+    goes_alone to session stays = fit_withdrawn p s.clients s.cells no_duplicates fit c waiting to session
         (λ n. queue_left s.clients c n to (service_of s.cells n).queue (no_close stays n) (fit.queues n))
 
     -- with its close asked for already
     goes_still : (to : Client) → server_of to ≡ server_of own → ((n : ℕ) → is_leaving n own ≡ true → is_leaving n to ≡ true) →
         ClientsFit p (with_client c to s.clients) (withdrawn c s.cells)
-    goes_still to session still = fit_withdrawn p s.clients s.cells tidy fit c waiting to session
+    goes_still to session still = fit_withdrawn p s.clients s.cells no_duplicates fit c waiting to session
         (λ n. queue_leaving s.clients c n to (still n) (service_of s.cells n).queue (fit.queues n))
 
     -- a server with a session is no message that goes
@@ -143,22 +143,22 @@ module _ (p : Image) (c : ℕ) (s : State) (tidy : Tidy s.cells) (fit : ClientsF
       a_cell_of (cell_of s.cells o.name) o,
       cell_of s.cells o.name,
       named_cell s.cells o.name,
-      empty p s.clients s.cells tidy fit c waiting o.name,
+      empty p s.clients s.cells no_duplicates fit c waiting o.name,
       service_cell s.cells o.name,
       service_in,
       withdrawn_so c s.cells,
-      named_sifted,
+      named_filtered_cells,
     )
 
     -- with its session open: a close is asked last
-    goes_told : (server session slots : ℕ) → own ≡ Open server session slots → (to : Client) → server_of to ≡ Some server → is_leaving server to ≡ true →
+    goes_reported : (server session slots : ℕ) → own ≡ Open server session slots → (to : Client) → server_of to ≡ Some server → is_leaving server to ≡ true →
         ClientsFit p (with_client c to s.clients) (reserved (asked_last (Close_of c)) server (withdrawn c s.cells))
-    goes_told server session slots at to same leaves = grind (
+    goes_reported server session slots at to same leaves = grind (
       arith,
       nat_tests,
-      fit_told p,
+      fit_reported p,
       client_here c to s.clients,
-      service_left p s.clients s.cells tidy fit c waiting,
+      service_left p s.clients s.cells no_duplicates fit c waiting,
       none_stays,
       no_close,
       server_there server,
@@ -169,12 +169,12 @@ module _ (p : Image) (c : ℕ) (s : State) (tidy : Tidy s.cells) (fit : ClientsF
 
     fit_closes : (k : Client) → own ≡ k → ClientsFit p (leaving p c s (row k).close).clients (leaving p c s (row k).close).cells
     fit_closes (Connecting server slots) at = grind (arith, nat_tests, goes_alone Unconnected)
-    fit_closes (Open server session slots) at = grind (arith, nat_tests, goes_told server session slots at (Closing server session), eq-eqb server server)
+    fit_closes (Open server session slots) at = grind (arith, nat_tests, goes_reported server session slots at (Closing server session), eq-eqb server server)
     fit_closes Gone at = grind (arith, nat_tests, goes_alone Unconnected)
     fit_closes _ at = fit
 
     fit_dies : (k : Client) → own ≡ k → ClientsFit p (leaving p c s (row k).die).clients (leaving p c s (row k).die).cells
-    fit_dies (Open server session slots) at = grind (arith, nat_tests, goes_told server session slots at (Dying server session), eq-eqb server server)
+    fit_dies (Open server session slots) at = grind (arith, nat_tests, goes_reported server session slots at (Dying server session), eq-eqb server server)
     fit_dies (Closing server session) at = grind (arith, nat_tests, goes_still (Dying server session))
     fit_dies Dead at = fit
     fit_dies (Dying server session) at = fit

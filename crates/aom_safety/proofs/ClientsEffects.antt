@@ -18,8 +18,8 @@ use Rattle.aom_semantics.specs.Cleanup.{to_trap, top_place}
 use Rattle.aom_semantics.specs.Effects.{Calls, Cancels, Destroys, Destroys_last, Effect, Goes_on, Leaves, Replied, Requested, Returns}
 use Rattle.aom_semantics.specs.Effects.{Same as Unchanged, Sets_trap, Update}
 use Rattle.aom_semantics.specs.Effects.{applied, asking_with, cancels_if, deals, deletes, effect, hands_unless, jumps_unless, makes_unless, needs, round}
-use Rattle.aom_semantics.specs.Requests.{Asking, aborted, cancelling, completed_at_once, first_request, home_kind, issued_of, on_request, own_request, waits}
-use Rattle.aom_semantics.specs.Tokens.{busy, is_crowded}
+use Rattle.aom_semantics.specs.Requests.{Asking, aborted, cancelling, completed_at_once, first_request, receiver_kind, issued_of, on_request, own_request, waits}
+use Rattle.aom_semantics.specs.Tokens.{busy, is_message_store_full}
 use Rattle.aom_safety.specs.Kept.{ClientsFit, TasksKept}
 use Rattle.aom_semantics.specs.Objects.{is_thing}
 use Rattle.aom_semantics.specs.Places.{Cell, Going, Object, Request, held, named}
@@ -79,23 +79,23 @@ module _ (p : Image) (c : Choice) (fr : Frame) (ts : List Task) (s : State) (fre
   fine_makes x y a = grind arith
 
   fine_requests : (f : Request → Request) → ((r : Request) (k : ℕ) → (f r).token ≡ Some k → r.token ≡ Some k) →
-      IsSteady fr s (Requested (on_request f (own_request s.cells fr.home)))
-  fine_requests f fewer = (on_none f (own_request s.cells fr.home), fewer_on f fewer (own_request s.cells fr.home))
+      IsSteady fr s (Requested (on_request f (own_request s.cells fr.receiver)))
+  fine_requests f fewer = (on_none f (own_request s.cells fr.receiver), fewer_on f fewer (own_request s.cells fr.receiver))
 
-  fine_hands : (b : Bool) (a : ℕ) → IsSteady fr s (hands_unless b c.name a (own_request s.cells fr.home))
+  fine_hands : (b : Bool) (a : ℕ) → IsSteady fr s (hands_unless b c.name a (own_request s.cells fr.receiver))
   fine_hands true a = fine_requests (completed_at_once busy) (λ r k e. absurd (none-some k e))
   fine_hands false a = free
 
-  fine_waits : IsSteady fr s (Requested (on_request waits (own_request s.cells fr.home)))
+  fine_waits : IsSteady fr s (Requested (on_request waits (own_request s.cells fr.receiver)))
   fine_waits = fine_requests waits (λ r k e. e)
 
-  fine_aborted : IsSteady fr s (Requested (on_request aborted (own_request s.cells fr.home)))
+  fine_aborted : IsSteady fr s (Requested (on_request aborted (own_request s.cells fr.receiver)))
   fine_aborted = fine_requests aborted (λ r k e. absurd (none-some k e))
 
   fine_issued : (a : ℕ) →
-      IsSteady fr s (Requested (on_request (issued_of (home_kind p fr.home) (asking_with p c fr ts s) (read fr ts s a)) (own_request s.cells fr.home)))
-  fine_issued a = fine_requests (issued_of (home_kind p fr.home) (asking_with p c fr ts s) (read fr ts s a))
-      (fewer_issued (home_kind p fr.home) (asking_with p c fr ts s) (read fr ts s a))
+      IsSteady fr s (Requested (on_request (issued_of (receiver_kind p fr.receiver) (asking_with p c fr ts s) (read fr ts s a)) (own_request s.cells fr.receiver)))
+  fine_issued a = fine_requests (issued_of (receiver_kind p fr.receiver) (asking_with p c fr ts s) (read fr ts s a))
+      (fewer_issued (receiver_kind p fr.receiver) (asking_with p c fr ts s) (read fr ts s a))
 
   fine_enlisted : (priority : ℤ) → IsSteady fr s (Requested (Some (first_request s.cells priority)))
   fine_enlisted priority = (λ e. cc, λ k e. absurd (none-some k e))
@@ -117,7 +117,7 @@ module _ (p : Image) (c : Choice) (fr : Frame) (ts : List Task) (s : State) (fre
     fine_aborted,
     fine_issued,
     fine_enlisted,
-    fine_hands (is_crowded p s.cells),
+    fine_hands (is_message_store_full p s.cells),
     fine_cond,
     fine_unless,
     fine_round,
@@ -148,7 +148,7 @@ module _ (p : Image) (fr : Frame) (ts : List Task) (s : State) (fit : ClientsFit
   effect_kept (Sets_trap target m first) f =
       kept_by (applied p fr ts s (Sets_trap target m first)) refl (steady_passed p fr ts s _ (arguments_of p m) first 0 s.cells) (λ k. k)
   effect_kept (Cancels m) f = kept_by (applied p fr ts s (Cancels m)) refl
-      (steady_asked s.cells fr.home (on_request cancelling (own_request s.cells fr.home)) (λ e. on_none cancelling (own_request s.cells fr.home) e)) (λ k. k)
+      (steady_asked s.cells fr.receiver (on_request cancelling (own_request s.cells fr.receiver)) (λ e. on_none cancelling (own_request s.cells fr.receiver) e)) (λ k. k)
   effect_kept (Returns g a) f = absurd f
   effect_kept (Leaves code u) f = kept_by (applied p fr ts s (Leaves code u)) refl (steady_update p fr ts s u f) (λ k. tasks_to_trap p s.clients _ ts k)
   effect_kept (Destroys x a words) f = kept_by (applied p fr ts s (Destroys x a words)) refl

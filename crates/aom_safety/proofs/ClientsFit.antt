@@ -12,14 +12,14 @@ use Rattle.aom_clients.specs.Nodes.{is_connecting_at, is_leaving, is_open_at}
 use Rattle.aom_clients.specs.Table.{server_of}
 use Rattle.aom_clients.specs.declared.client.Client.{Client}
 use Rattle.aom_safety.proofs.Queues.{client_here, client_of, client_there, is_of, none_passes, queue_other}
-use Rattle.aom_safety.proofs.Seated.{seats_opened, seats_parted}
+use Rattle.aom_safety.proofs.OwnedPlaced.{owned_objects_opened, owned_objects_parted}
 use Rattle.aom_safety.proofs.Services.{held_served, named_served, service_here, service_there, requested_served}
 use Rattle.aom_safety.proofs.Sources.{has_sender, served_as, sources_as, sources_at}
 use Rattle.aom_semantics.specs.Clients.{at_opening, at_parting, client_at, most_of, with_client}
 use Rattle.aom_semantics.specs.Requests.{thing_kind}
 use Rattle.aom_safety.specs.Kept.{ClientsFit, EntryFits, HasSources, QueueFits, ServesSent, TasksKept, is_close_of, is_connect_of, is_message_of, sources_of}
 use Rattle.aom_semantics.specs.Places.{Asked, Cell, Elsewhere, Object, Queued, Service, held, named, service_of, requested}
-use Rattle.aom_semantics.specs.Servers.{has_session, is_from, is_other, is_server, opened, parted, reserved, seats_taken}
+use Rattle.aom_semantics.specs.Servers.{has_session, is_from, is_other, is_server, opened, parted, reserved, sessions_in_use}
 use Rattle.aom_semantics.specs.State.{State}
 
 -- what is kept of a state but for its tokens
@@ -133,18 +133,18 @@ module _ (p : Image) (cs : List Cell) (o : Object) (lives : named cs o.name ≡ 
       grind (arith, nat_tests, named_served cs o.name, requested_served cs o.name, ne_eqb o.name x.name, listed, service_there cs o.name x.name)
 
   -- as long as it has seats
-  pub seats_then : (clients : List Client) → ClientsFit p clients cs → seats_taken (f (service_of cs o.name)) ≤ most_of (thing_kind p o.thing) → (x : Object) →
-      named then x.name ≡ Some x → seats_taken (service_of then x.name) ≤ most_of (thing_kind p x.thing)
-  seats_then clients fit room x there = by_server cs o lives f (λ n v. named cs n ≡ Some x → n ≡ x.name → seats_taken v ≤ most_of (thing_kind p x.thing)) here
+  pub owned_objects_then : (clients : List Client) → ClientsFit p clients cs → sessions_in_use (f (service_of cs o.name)) ≤ most_of (thing_kind p o.thing) → (x : Object) →
+      named then x.name ≡ Some x → sessions_in_use (service_of then x.name) ≤ most_of (thing_kind p x.thing)
+  owned_objects_then clients fit room x there = by_server cs o lives f (λ n v. named cs n ≡ Some x → n ≡ x.name → sessions_in_use v ≤ most_of (thing_kind p x.thing)) here
       others x.name (sym (named_served cs o.name (f (service_of cs o.name)) x.name) ∙ there) refl
     where
-      here : named cs o.name ≡ Some x → o.name ≡ x.name → seats_taken (f (service_of cs o.name)) ≤ most_of (thing_kind p x.thing)
+      here : named cs o.name ≡ Some x → o.name ≡ x.name → sessions_in_use (f (service_of cs o.name)) ≤ most_of (thing_kind p x.thing)
       here at same = let one : Some o ≡ Some x = sym lives ∙ at in let equal : o ≡ x = cc in
-          subst (λ y. seats_taken (f (service_of cs o.name)) ≤ most_of (thing_kind p y.thing)) equal room
+          subst (λ y. sessions_in_use (f (service_of cs o.name)) ≤ most_of (thing_kind p y.thing)) equal room
 
-      others : (n : ℕ) → (o.name == n) ≡ false → named cs n ≡ Some x → n ≡ x.name → seats_taken (service_of cs n) ≤ most_of (thing_kind p x.thing)
+      others : (n : ℕ) → (o.name == n) ≡ false → named cs n ≡ Some x → n ≡ x.name → sessions_in_use (service_of cs n) ≤ most_of (thing_kind p x.thing)
       others n other at same =
-          subst (λ k. seats_taken (service_of cs k) ≤ most_of (thing_kind p x.thing)) (sym same) (fit.seats x (ap (λ k. named cs k) (sym same) ∙ at))
+          subst (λ k. sessions_in_use (service_of cs k) ≤ most_of (thing_kind p x.thing)) (sym same) (fit.owned_chain x (ap (λ k. named cs k) (sym same) ∙ at))
 
   -- a message that waits is of its sender
   pub senders_then : (clients : List Client) → ClientsFit p clients cs →
@@ -186,7 +186,7 @@ module _ (p : Image) (clients : List Client) (cs : List Cell) (fit : ClientsFit 
       ((n d : ℕ) → has_session (service_of (reserved f o.name cs) n) d ≡ true → server_of (client_at clients' d) ≡ Some n) →
       ((n d : ℕ) → server_of (client_at clients' d) ≡ Some n → has_session (service_of (reserved f o.name cs) n) d ≡ true) →
       ((d m : ℕ) → list_any (is_message_of d m) (f (service_of cs o.name)).queue ≡ true → is_from d (service_of cs m).sender ≡ true) →
-      seats_taken (f (service_of cs o.name)) ≤ most_of (thing_kind p o.thing) → ClientsFit p clients' (reserved f o.name cs)
+      sessions_in_use (f (service_of cs o.name)) ≤ most_of (thing_kind p o.thing) → ClientsFit p clients' (reserved f o.name cs)
   fit_reserved sender token queues sessions has senders room = record {
     queues = queues;
     sessions = sessions;
@@ -197,7 +197,7 @@ module _ (p : Image) (clients : List Client) (cs : List Cell) (fit : ClientsFit 
     sources = sources_then p cs o lives f (grind (arith, nat_tests, sender, token)) fit.sources;
     served = served_then p cs o lives f (ap is_some sender) fit.served;
     enlisted = enlisted_then p cs o lives f listed clients fit;
-    seats = seats_then p cs o lives f clients fit room;
+    owned_chain = owned_objects_then p cs o lives f clients fit room;
   }
 
 -- ---- `accept` has given a session
@@ -211,7 +211,7 @@ module _ (p : Image) (clients : List Client) (cs : List Cell) (fit : ClientsFit 
   eqb_same xs = grind (arith, nat_tests, list_any-append, eq-eqb c c, or-true)
 
   module _ (session : ℕ) (at : is_connecting_at o.name own ≡ true) (none : list_any (is_connect_of c) (service_of cs o.name).queue ≡ false)
-      (room : seats_taken (service_of cs o.name) < most_of (thing_kind p o.thing)) where
+      (room : sessions_in_use (service_of cs o.name) < most_of (thing_kind p o.thing)) where
     is_open : (x : Client) → is_connecting_at o.name x ≡ true → server_of (at_opening session x) ≡ Some o.name
     is_open x e = grind arith
 
@@ -219,7 +219,7 @@ module _ (p : Image) (clients : List Client) (cs : List Cell) (fit : ClientsFit 
     fit_accepted = fit_reserved p clients cs fit o lives serves listed (opened c) (with_client c (at_opening session own) clients) refl refl
         (by_server cs o lives (opened c) (λ n v. QueueFits (with_client c (at_opening session own) clients) n v.queue) (queues o.name) (λ n e. queues n))
         (sessions_changed p c (at_opening session own) clients cs (reserved (opened c) o.name cs) fit now) (listed_changed p c (at_opening session own) clients
-        cs (reserved (opened c) o.name cs) fit now) (fit.senders o.name) (let one = seats_opened c (service_of cs o.name) in omega (arith, room, one))
+        cs (reserved (opened c) o.name cs) fit now) (fit.senders o.name) (let one = owned_objects_opened c (service_of cs o.name) in omega (arith, room, one))
       where
         queues : (n : ℕ) → QueueFits (with_client c (at_opening session own) clients) n (service_of cs n).queue
         queues n = grind (arith, nat_tests, queue_other c n, none_of_connecting clients c n o.name at)
@@ -250,7 +250,7 @@ module _ (p : Image) (clients : List Client) (cs : List Cell) (fit : ClientsFit 
     fit_parted = fit_reserved p clients cs fit o lives serves listed (parted c) (with_client c (at_parting own) clients) refl refl (by_server cs o lives
         (parted c) (λ n v. QueueFits (with_client c (at_parting own) clients) n v.queue) (queues o.name) (λ n e. queues n)) (sessions_changed p c
         (at_parting own) clients cs (reserved (parted c) o.name cs) fit now) (listed_changed p c (at_parting own) clients cs (reserved (parted c) o.name cs) fit
-        now) (fit.senders o.name) (let less = seats_parted c (service_of cs o.name) in let was = fit.seats o lives in omega (arith, less, was))
+        now) (fit.senders o.name) (let less = owned_objects_parted c (service_of cs o.name) in let was = fit.owned_chain o lives in omega (arith, less, was))
       where
         queues : (n : ℕ) → QueueFits (with_client c (at_parting own) clients) n (service_of cs n).queue
         queues n = grind (arith, nat_tests, queue_other c n, none_of_leaving clients c n o.name at)

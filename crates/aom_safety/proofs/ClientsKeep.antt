@@ -6,9 +6,9 @@ use Rattle.aom_image.specs.Image.{Image}
 use Rattle.aom_instructions.specs.declared.instr.Instr.{Instr}
 use Rattle.aom_image.specs.declared.method.Role.TheVariants.{Error as Answers}
 use Rattle.aom_image.specs.declared.method.Thing.TheVariants.{Message}
-use Rattle.aom_classes.specs.Roles.{main_of}
+use Rattle.aom_link_conditions.specs.Roles.{main_of}
 use Rattle.aom_clients.specs.declared.client.Client.{Client}
-use Rattle.aom_rules.specs.Typing.{Typing}
+use Rattle.aom_typing_rules.specs.Typing.{Typing}
 use Rattle.aom_safety.proofs.ClientsEffects.{IsAnswer, IsCompleting, effect_kept, fine_effect}
 use Rattle.aom_safety.proofs.ClientsFacts.{IsAt, goes_apart, queued_well, server_lives, serving_plain, waiting_well}
 use Rattle.aom_safety.proofs.ClientsFit.{IsFit, fit_parted}
@@ -28,20 +28,20 @@ use Rattle.aom_semantics.specs.Objects.{is_thing}
 use Rattle.aom_semantics.specs.Tokens.{TokensApart, redeemed_by, token_of}
 use Rattle.aom_semantics.specs.Words.{here}
 use Rattle.aom_safety.proofs.Moving.{steps_are_moves}
-use Rattle.aom_safety.specs.Steps.{Acts, Arrives, Clears, Comes_out, Empties, Ends, Move, Rests, Undoes, Vanishes}
+use Rattle.aom_safety.specs.Steps.{Acts, Arrives, Clears, Comes_out, Empties, Ends, Move, Rests, Undoes, Reclaims}
 use Rattle.aom_safety.proofs.Guarded.{acts_at}
 use Rattle.aom_semantics.specs.Cleanup.{ended_by}
-use Rattle.aom_semantics.specs.Destruction.{begun, parting, vanished, first_session}
+use Rattle.aom_semantics.specs.Destruction.{begun, parting, reclaimed, first_session}
 use Rattle.aom_semantics.specs.Effects.{Change, Effect, Goes_on, Replied, Returns, Update, applied, effect, needs}
 use Rattle.aom_semantics.specs.Requests.{ended_cells, part_of}
-use Rattle.aom_safety.specs.Kept.{ClientsFit, IsKept, StageKept, TasksKept, is_message_of}
+use Rattle.aom_safety.specs.Kept.{ClientsFit, StateInvariant, StageKept, TasksKept, is_message_of}
 use Rattle.aom_safety.specs.Laws.{ClientsKeep, IsWired}
 use Rattle.aom_semantics.specs.Moves.{answered, asking, counted, dispatch_ends, handled, main_ends, object_ends, stage_ends, step}
 use Rattle.aom_semantics.specs.Places.{Cell, Elsewhere, Entry, Going, In_service, Object, Place, Queued, Root}
-use Rattle.aom_semantics.specs.Places.{Tidy, held, moved, named, service_of, without, requested, Request}
+use Rattle.aom_semantics.specs.Places.{NoDuplicates, held, moved, named, service_of, without, requested, Request}
 use Rattle.aom_semantics.specs.Servers.{is_server}
 use Rattle.aom_semantics.specs.State.{Accept_left, Accepts, Answered, Asks, Choice, Closing, Destroy, Dispatch, Dispatched, Frame, Goes, Object_left, Of_main}
-use Rattle.aom_semantics.specs.State.{Of_object, Of_root, Of_server, Parts, Run, Seat, Service_left, Stage, State, Task, Trapped, Unwind, resumed}
+use Rattle.aom_semantics.specs.State.{Of_object, Of_root, Of_server, Disconnects, Run, OwnedObject, Service_left, Stage, State, Task, Trapped, Unwind, resumed}
 use Rattle.aom_safety.specs.WellTyped.{Now, WellTyped}
 use Rattle.aom_semantics.specs.World.{boot_state, main_tasks}
 use Rattle.std.specs.Prelude.{is_some}
@@ -60,7 +60,7 @@ boot_kept p = record {
     senders = λ n c m h. cc;
     sources = λ o h. cc;
     served = λ o h. cc;
-    seats = λ o h. cc;
+    owned_chain = λ o h. cc;
     enlisted = λ o h e. cc;
   };
   stage = stage (main_of p);
@@ -94,7 +94,7 @@ module _ (p : Image) (s : State) (fit : ClientsFit p s.clients s.cells) where
 
   -- ---- a server lets go of a session
 
-  parting_kept : (o : Object) (x : Option Seat) (below : List Task) → TasksKept p s.clients s.cells below → IsFit p (parting p o x below s)
+  parting_kept : (o : Object) (x : Option OwnedObject) (below : List Task) → TasksKept p s.clients s.cells below → IsFit p (parting p o x below s)
   parting_kept o None below stage = grind (arith, nat_tests, same_cells p s fit)
   parting_kept o (Some x) below stage = begun_kept x.place _ x.object (length s.items) (Closing ∷ Destroy ∷ below) _ refl refl refl stage
 
@@ -112,27 +112,27 @@ module _ (p : Image) (s : State) (fit : ClientsFit p s.clients s.cells) where
   answered_kept : (answer : ℤ) → IsFit p (answered p answer s)
   answered_kept answer = grind (arith, nat_tests, IsFit p, object_kept, same_cells p s fit)
 
-  asking_kept : (m : Option ℕ) (x : Seat) (code : ℤ) → IsFit p (asking p m x code s)
+  asking_kept : (m : Option ℕ) (x : OwnedObject) (code : ℤ) → IsFit p (asking p m x code s)
   asking_kept x y code = grind (arith, nat_tests, answered_kept code, same_cells p s fit)
 
   -- of a server: a connect that was left has no session, a message is completed, or a session is closed
-  module _ (tidy : Tidy s.cells) (queued : (n c m : ℕ) → list_any (is_message_of c m) (service_of s.cells n).queue ≡ true → (x : Object) × (held s.cells
+  module _ (no_duplicates : NoDuplicates s.cells) (queued : (n c m : ℕ) → list_any (is_message_of c m) (service_of s.cells n).queue ≡ true → (x : Object) × (held s.cells
       (Elsewhere (Queued n m)) ≡ Some x)) (plain : (o : Object) → held s.cells (Elsewhere In_service) ≡ Some o → is_server p o.thing ≡ false) where
     service_gone_kept : ClientsFit p s.clients (without (Elsewhere In_service) s.cells)
     service_gone_kept = go (held s.cells (Elsewhere In_service)) refl
       where
         go : (o : Option Object) → held s.cells (Elsewhere In_service) ≡ o → ClientsFit p s.clients (without (Elsewhere In_service) s.cells)
         go None e = subst (λ l. ClientsFit p s.clients l) (sym (without_none s.cells (Elsewhere In_service) e)) fit
-        go (Some o) e = fit_without p s.clients s.cells tidy fit o (Elsewhere In_service) e (λ n m. refl) (plain o e) queued
+        go (Some o) e = fit_without p s.clients s.cells no_duplicates fit o (Elsewhere In_service) e (λ n m. refl) (plain o e) queued
 
-    stage_kept : (x : Seat) (c : ℕ) (stage : Stage) → named s.cells x.object.name ≡ Some x.object → is_server p x.object.thing ≡ true →
+    stage_kept : (x : OwnedObject) (c : ℕ) (stage : Stage) → named s.cells x.object.name ≡ Some x.object → is_server p x.object.thing ≡ true →
         is_some (requested s.cells x.object.name) ≡ true → StageKept p s.clients s.cells x.object c stage → IsFit p (stage_ends x c stage s)
     stage_kept x c (Accept_left code) lives serves listed k = record { fit = fit_unconnected p s.clients s.cells fit x.object.name c k.0 k.1; stage = tt }
     stage_kept x c (Service_left code) lives serves listed k = record { fit = service_gone_kept; stage = tt }
-    stage_kept x c Parts lives serves listed k = record { fit = fit_parted p s.clients s.cells fit x.object lives serves listed c k.0 k.1; stage = tt }
+    stage_kept x c Disconnects lives serves listed k = record { fit = fit_parted p s.clients s.cells fit x.object lives serves listed c k.0 k.1; stage = tt }
     stage_kept x c _ lives serves listed k = same_cells p s fit _ refl refl tt
 
-    dispatch_kept : (d : Dispatch) (ts : List Task) → ((x : Seat) (c : ℕ) (stage : Stage) → d ≡ Of_server x c stage →
+    dispatch_kept : (d : Dispatch) (ts : List Task) → ((x : OwnedObject) (c : ℕ) (stage : Stage) → d ≡ Of_server x c stage →
         (named s.cells x.object.name ≡ Some x.object) × (is_server p x.object.thing ≡ true) × (is_some (requested s.cells x.object.name) ≡ true)) →
         TasksKept p s.clients s.cells (Dispatched d ∷ ts) → IsFit p (dispatch_ends p d s)
     dispatch_kept Of_main ts there k = main_kept p s fit s.rest.stopped (held s.cells (Elsewhere Root))
@@ -151,14 +151,14 @@ tasks_resumed p clients cs x k = grind arith
 -- ---- each move
 
 module _ (p : Image) (t : Typing) (wired : IsWired p) (c : Choice) (s : State) (w : WellTyped p t s) (free : named s.cells c.name ≡ None) (kept : IsFit p s) where
-  tidy : Tidy s.cells
-  tidy = w.good.tidy
+  no_duplicates : NoDuplicates s.cells
+  no_duplicates = w.good.no_duplicates
 
   queued : (n c m : ℕ) → list_any (is_message_of c m) (service_of s.cells n).queue ≡ true → (x : Object) × (held s.cells (Elsewhere (Queued n m)) ≡ Some x)
   queued = queued_well p t s w s.clients kept.fit
 
   -- the server that is dispatched stands
-  there : (ts : List Task) → s.tasks ≡ ts → (x : Seat) (d : ℕ) (stage : Stage) → IsAt (Of_server x d stage) ts →
+  there : (ts : List Task) → s.tasks ≡ ts → (x : OwnedObject) (d : ℕ) (stage : Stage) → IsAt (Of_server x d stage) ts →
       (named s.cells x.object.name ≡ Some x.object) × (is_server p x.object.thing ≡ true) × (is_some (requested s.cells x.object.name) ≡ true)
   there ts tasks x d stage at = let l =
       server_lives p t s.cells w.layers Now x d stage w.good.stack (subst (λ l. IsAt (Of_server x d stage) l) (sym tasks ∙ w.tasks) at) in (l.0, l.1, l.3)
@@ -201,8 +201,8 @@ module _ (p : Image) (t : Typing) (wired : IsWired p) (c : Choice) (s : State) (
             let plain = message_plain p o.thing (stands_message p o.thing (sym (ap (is_thing p Message) e) ∙ thing)) in
             let there = like.held_so (here fr ts (counted p s) a) ∙ e in
             record {
-              fit = fit_without p s.clients cs (like.tidy tidy) fit o (here fr ts (counted p s) a) there (λ n m. refl) plain waiting;
-              stage = tasks_without p s.clients cs (like.tidy tidy) fit o (here fr ts (counted p s) a) there (λ n m. refl) plain waiting ts stage;
+              fit = fit_without p s.clients cs (like.no_duplicates no_duplicates) fit o (here fr ts (counted p s) a) there (λ n m. refl) plain waiting;
+              stage = tasks_without p s.clients cs (like.no_duplicates no_duplicates) fit o (here fr ts (counted p s) a) there (λ n m. refl) plain waiting ts stage;
             }
 
     -- a method returns
@@ -235,11 +235,11 @@ module _ (p : Image) (t : Typing) (wired : IsWired p) (c : Choice) (s : State) (
   stage_at : (ts : List Task) → s.tasks ≡ ts → TasksKept p s.clients s.cells ts
   stage_at ts at = subst (λ l. TasksKept p s.clients s.cells l) at kept.stage
 
-  gone_kept : (ts : List Task) (o : Object) → s.tasks ≡ Destroy ∷ ts → held s.cells (Going (length ts)) ≡ Some o → IsFit p (vanished o ts (counted p s))
+  gone_kept : (ts : List Task) (o : Object) → s.tasks ≡ Destroy ∷ ts → held s.cells (Going (length ts)) ≡ Some o → IsFit p (reclaimed o ts (counted p s))
   gone_kept ts o tasks at = record {
-    fit = fit_gone p s.clients s.cells tidy kept.fit o (Going (length ts)) at (λ n m. refl) (waiting_well p t wired s w) queued;
+    fit = fit_gone p s.clients s.cells no_duplicates kept.fit o (Going (length ts)) at (λ n m. refl) (waiting_well p t wired s w) queued;
     stage = tasks_resumed p _ _ ts (tasks_staged p s.clients _ s.cells _ ts
-        (λ x d stage below k. stage_gone p s.clients s.cells tidy kept.fit o (Going (length ts)) at (λ n m. refl)
+        (λ x d stage below k. stage_gone p s.clients s.cells no_duplicates kept.fit o (Going (length ts)) at (λ n m. refl)
         (waiting_well p t wired s w) queued x.object d stage (goes_apart p t s w ts tasks o at x d stage below) k) (stage_at (Destroy ∷ ts) tasks));
   }
 
@@ -255,7 +255,7 @@ module _ (p : Image) (t : Typing) (wired : IsWired p) (c : Choice) (s : State) (
       of : Move p c s u → IsFit p u
       of (Rests still same) = along _ same (same_cells p v kept.fit _ refl refl kept.stage)
       of (Acts fr ts i x tasks there met may same) = let a = acts_at p c s u fr ts i tasks there e in along _ (sym a.1) (act_kept fr ts tasks i a.0)
-      of (Vanishes ts o tasks there none same) = along _ same (gone_kept ts o tasks there)
+      of (Reclaims ts o tasks there none same) = along _ same (gone_kept ts o tasks there)
       of (Empties ts o tasks there same) = along _ same
           (parting_kept p v kept.fit o (first_session s.cells o.name (service_of s.cells o.name).sessions) ts (stage_at (Closing ∷ Destroy ∷ ts) tasks))
       of (Clears code ts items o tasks top there same) = along _ same
@@ -264,22 +264,22 @@ module _ (p : Image) (t : Typing) (wired : IsWired p) (c : Choice) (s : State) (
       of (Arrives code fr ts items tasks top same) = along _ same (same_cells p v kept.fit _ refl refl (stage_at (Unwind code ∷ Trapped ∷ Run fr ∷ ts) tasks))
       of (Comes_out code d ts items tasks top same) =
           along _ same (same_cells p v kept.fit _ refl refl (arrival_stage p v kept.fit code d ts (stage_at (Unwind code ∷ Trapped ∷ Dispatched d ∷ ts) tasks)))
-      of (Ends d ts tasks same) = along _ same (dispatch_kept p v kept.fit tidy queued (serving_plain p t s w) d ts
+      of (Ends d ts tasks same) = along _ same (dispatch_kept p v kept.fit no_duplicates queued (serving_plain p t s w) d ts
           (λ x k stage same. there (Dispatched d ∷ ts) tasks x k stage same) (stage_at (Dispatched d ∷ ts) tasks))
 
 -- ---- and tokens with them
 
-with_tokens : (p : Image) (s : State) → IsFit p s → TokensApart s.cells → IsKept p s
+with_tokens : (p : Image) (s : State) → IsFit p s → TokensApart s.cells → StateInvariant p s
 with_tokens p s it apart = record { fit = it.fit; stage = it.stage; tokens = apart }
 
-without_tokens : (p : Image) (s : State) → IsKept p s → IsFit p s
+without_tokens : (p : Image) (s : State) → StateInvariant p s → IsFit p s
 without_tokens p s kept = record { fit = kept.fit; stage = kept.stage }
 
 pub clients_keep : ClientsKeep
 clients_keep = record {
   boot = λ p. with_tokens p (boot_state p) (boot_kept p) boot_apart;
   moves = λ p t wired typed c s u w free kept e. with_tokens p u (moved_kept p t wired c s w free (without_tokens p s kept) u e)
-      (moved_apart p c s u free w.good.tidy kept.tokens e);
-  turns = λ p t outside wired typed heard s u w between hears kept e. with_tokens p u (turn_kept p t wired s w between.idle
-      (without_tokens p s kept) outside heard u hears.name e) (turned_apart p outside heard s u w.good.tidy kept.tokens e);
+      (moved_apart p c s u free w.good.no_duplicates kept.tokens e);
+  turns = λ p t outside wired typed observed s u w between observes kept e. with_tokens p u (turn_kept p t wired s w between.idle
+      (without_tokens p s kept) outside observed u observes.name e) (turned_apart p outside observed s u w.good.no_duplicates kept.tokens e);
 }

@@ -28,24 +28,24 @@ use Rattle.aom_semantics.specs.Calls.{passed_cells, result_cells}
 use Rattle.aom_semantics.specs.Cleanup.{top_place}
 use Rattle.aom_semantics.specs.Clients.{client_at, with_client}
 use Rattle.aom_safety.proofs.Redeeming.{redeeming, requested_redeemed}
-use Rattle.aom_safety.proofs.Storing.{rerequested_alike}
-use Rattle.aom_semantics.specs.Tokens.{all_redeemed, awaited, handed_cells, home_class, next_token, promised, redeemed_by, redeemed_request, with_token}
+use Rattle.aom_safety.proofs.Storing.{request_updated_alike}
+use Rattle.aom_semantics.specs.Tokens.{all_redeemed, awaited, handed_cells, receiver_class, next_token, promised, redeemed_by, redeemed_request, with_token}
 use Rattle.aom_semantics.specs.Effects.{Carried, Handed, In_field, In_register, Made, Popped, Pushed, Replied, Requested}
 use Rattle.aom_semantics.specs.Effects.{Sessioned, The_message, Update, Written, cells_after, spot_place}
-use Rattle.aom_semantics.specs.Requests.{ended_cells, on_request, own_request, rerequested}
+use Rattle.aom_semantics.specs.Requests.{ended_cells, on_request, own_request, request_updated}
 use Rattle.aom_safety.specs.Kept.{ClientsFit, ConnectKept, StageKept, TasksKept, is_close_of, is_connect_of}
-use Rattle.aom_semantics.specs.Natives.{resessioned}
+use Rattle.aom_semantics.specs.Natives.{session_updated}
 use Rattle.aom_semantics.specs.Places.{Cell, Elsewhere, Entry, In_service, Object, Place, Queued, Request, Token, held}
 use Rattle.aom_semantics.specs.Places.{moved, named, same_place, service_of, set_request, with_new, requested}
-use Rattle.aom_semantics.specs.State.{Accept_left, Accepts, Dispatched, Frame, Home, Inside, Of_server, Parts, Seat, Stage, State, Task, field_place}
+use Rattle.aom_semantics.specs.State.{Accept_left, Accepts, Dispatched, Frame, Receiver, Inside, Of_server, Disconnects, OwnedObject, Stage, State, Task, field_place}
 use Rattle.aom_semantics.specs.Words.{here, stored}
-use Rattle.aom_safety.proofs.Seated.{seats_same}
+use Rattle.aom_safety.proofs.OwnedPlaced.{owned_objects_same}
 
 -- ---- tasks
 
 -- what a stage has stays kept, so do tasks
 pub tasks_staged : (p : Image) (clients clients' : List Client) (cs cs' : List Cell) (ts : List Task) →
-    ((x : Seat) (c : ℕ) (stage : Stage) → IsAt (Of_server x c stage) ts → StageKept p clients cs x.object c stage → StageKept p clients' cs' x.object c stage) →
+    ((x : OwnedObject) (c : ℕ) (stage : Stage) → IsAt (Of_server x c stage) ts → StageKept p clients cs x.object c stage → StageKept p clients' cs' x.object c stage) →
     TasksKept p clients cs ts → TasksKept p clients' cs' ts
 tasks_staged p clients clients' cs cs' [] still k = tt
 tasks_staged p clients clients' cs cs' (Dispatched (Of_server x c stage) ∷ ts) still k = still x c stage refl k
@@ -58,13 +58,13 @@ module _ (p : Image) (clients : List Client) (cs cs' : List Cell) (queues : (n :
   connect_queues o c k = (
     k.0,
     ap (λ q. list_any (is_connect_of c) q) (queues o.name) ∙ k.1,
-    grind (arith, nat_tests, seats_same, queues o.name, sessions o.name),
+    grind (arith, nat_tests, owned_objects_same, queues o.name, sessions o.name),
   )
 
   pub stage_queues : (o : Object) (c : ℕ) (stage : Stage) → StageKept p clients cs o c stage → StageKept p clients cs' o c stage
   stage_queues o c Accepts k = connect_queues o c k
   stage_queues o c (Accept_left code) k = connect_queues o c k
-  stage_queues o c Parts k = (k.0, ap (λ q. list_any (is_close_of c) q) (queues o.name) ∙ k.1)
+  stage_queues o c Disconnects k = (k.0, ap (λ q. list_any (is_close_of c) q) (queues o.name) ∙ k.1)
   stage_queues o c _ k = tt
 
   pub tasks_queues : (ts : List Task) → TasksKept p clients cs ts → TasksKept p clients cs' ts
@@ -128,18 +128,18 @@ steady_token cs name token owner apart aside free = steady_more _ cs free refl r
 abbrev pub Fewer : Option Request → Option Request → Type 0
 Fewer r old = (k : ℕ) → awaited r ≡ Some k → awaited old ≡ Some k
 
-pub steady_asked : (cs : List Cell) (home : Home) (r : Option Request) → (r ≡ None → own_request cs home ≡ None) → Steady cs (rerequested cs home r)
+pub steady_asked : (cs : List Cell) (receiver : Receiver) (r : Option Request) → (r ≡ None → own_request cs receiver ≡ None) → Steady cs (request_updated cs receiver r)
 steady_asked cs (Inside o from) r keeps = steady_same cs (set_request o.name r cs) (same_requested cs o r keeps)
 steady_asked cs _ r keeps = steady_itself cs
 
 -- a token is handed out
-pub steady_handed : (cs : List Cell) (name : ℕ) (home : Home) (owner : Place) → NoQueue owner → NoService owner → named cs name ≡ None →
-    Steady cs (handed_cells name home owner cs)
-steady_handed cs name home owner apart aside free =
-    let r = on_request (promised (next_token cs)) (own_request cs home) in
-    let like = rerequested_alike cs home r in
-    steady_moved_then cs (rerequested cs home r) _ (steady_asked cs home r (λ e. on_none (promised (next_token cs)) (own_request cs home) e)) (steady_token
-    (rerequested cs home r) name (record { class = home_class home; order = next_token cs }) owner apart aside (like.named_so name ∙ free)) like.named_so
+pub steady_handed : (cs : List Cell) (name : ℕ) (receiver : Receiver) (owner : Place) → NoQueue owner → NoService owner → named cs name ≡ None →
+    Steady cs (handed_cells name receiver owner cs)
+steady_handed cs name receiver owner apart aside free =
+    let r = on_request (promised (next_token cs)) (own_request cs receiver) in
+    let like = request_updated_alike cs receiver r in
+    steady_moved_then cs (request_updated cs receiver r) _ (steady_asked cs receiver r (λ e. on_none (promised (next_token cs)) (own_request cs receiver) e)) (steady_token
+    (request_updated cs receiver r) name (record { class = receiver_class receiver; order = next_token cs }) owner apart aside (like.named_so name ∙ free)) like.named_so
 
 -- and replied to
 listed_redeemed : (order : ℕ) (code : ℤ) (r : Option Request) → redeemed_request order code r ≡ None → r ≡ None
@@ -164,16 +164,16 @@ steady_altered {change = change} a stays asks serves cs = steady_same cs (change
   listed_so = λ n e. sym (read_kept a requests asks cs n) ∙ e;
 })
 
-pub steady_opened : (cs : List Cell) (home : Home) (b : Bool) → Steady cs (resessioned cs home b)
+pub steady_opened : (cs : List Cell) (receiver : Receiver) (b : Bool) → Steady cs (session_updated cs receiver b)
 steady_opened cs (Inside o from) b = steady_altered (opening o.name b) (λ c. refl) (λ c. refl) (λ c. refl) cs
 steady_opened cs _ b = steady_itself cs
 
-pub steady_stored : (cs : List Cell) (home : Home) (w : ℕ) (v : ℤ) → Steady cs (stored cs home w v)
+pub steady_stored : (cs : List Cell) (receiver : Receiver) (w : ℕ) (v : ℤ) → Steady cs (stored cs receiver w v)
 steady_stored cs (Inside o from) w v = steady_altered (storing o.name w v) (λ c. refl) (λ c. refl) (λ c. refl) cs
 steady_stored cs _ w v = steady_itself cs
 
 pub steady_ended : (p : Image) (fr : Frame) (cs : List Cell) → Steady cs (ended_cells p fr cs)
-steady_ended p fr cs = grind (arith, nat_tests, steady_asked cs fr.home, on_none, steady_itself cs)
+steady_ended p fr cs = grind (arith, nat_tests, steady_asked cs fr.receiver, on_none, steady_itself cs)
 
 module _ (fr : Frame) (s : State) where
   -- where it makes a cell its name is free, a request is not taken away and waits for no new token, nothing comes to be served, and a message that it completes
@@ -181,28 +181,28 @@ module _ (fr : Frame) (s : State) where
   abbrev pub IsSteady : Update → Type 0
   IsSteady (Carried from The_message) = ⊥
   IsSteady (Made name class a) = named s.cells name ≡ None
-  IsSteady (Requested r) = (r ≡ None → own_request s.cells fr.home ≡ None) × Fewer r (own_request s.cells fr.home)
+  IsSteady (Requested r) = (r ≡ None → own_request s.cells fr.receiver ≡ None) × Fewer r (own_request s.cells fr.receiver)
   IsSteady (Replied a code) = ⊥
   IsSteady (Handed name a) = named s.cells name ≡ None
   IsSteady _ = Unit {0}
 
 module _ (p : Image) (fr : Frame) (ts : List Task) (s : State) where
-  field_apart : (home : Home) (f : ℕ) → NoQueue (field_place home f)
+  field_apart : (receiver : Receiver) (f : ℕ) → NoQueue (field_place receiver f)
   field_apart x f n m = grind arith
 
-  field_aside : (home : Home) (f : ℕ) → NoService (field_place home f)
+  field_aside : (receiver : Receiver) (f : ℕ) → NoService (field_place receiver f)
   field_aside x f = grind arith
 
   pub steady_update : (u : Update) → IsSteady fr s u → Steady s.cells (cells_after p fr ts s u)
   steady_update (Carried from The_message) h = absurd h
   steady_update (Carried from (In_register a)) h = steady_moved s.cells (spot_place p fr ts s from) (here fr ts s a) (λ n m. refl) refl
   steady_update (Carried from (In_field f)) h =
-      steady_moved s.cells (spot_place p fr ts s from) (field_place fr.home f) (field_apart fr.home f) (field_aside fr.home f)
-  steady_update (Handed name a) h = steady_handed s.cells name fr.home (here fr ts s a) (λ n m. refl) refl h
+      steady_moved s.cells (spot_place p fr ts s from) (field_place fr.receiver f) (field_apart fr.receiver f) (field_aside fr.receiver f)
+  steady_update (Handed name a) h = steady_handed s.cells name fr.receiver (here fr ts s a) (λ n m. refl) refl h
   steady_update (Made name class a) h = steady_new s.cells name (An_object_of class) _ (here fr ts s a) (λ n m. refl) refl refl h
-  steady_update (Written w v) h = steady_stored s.cells fr.home w v
-  steady_update (Requested r) h = steady_asked s.cells fr.home r h.0
-  steady_update (Sessioned b) h = steady_opened s.cells fr.home b
+  steady_update (Written w v) h = steady_stored s.cells fr.receiver w v
+  steady_update (Requested r) h = steady_asked s.cells fr.receiver r h.0
+  steady_update (Sessioned b) h = steady_opened s.cells fr.receiver b
   steady_update (Pushed a) h = steady_moved s.cells (here fr ts s a) (Entry (length s.items)) (λ n m. refl) refl
   steady_update (Popped a) h = steady_moved s.cells (top_place s.items) (here fr ts s a) (λ n m. refl) refl
   steady_update (Replied a code) h = absurd h
@@ -230,7 +230,7 @@ module _ (p : Image) (clients : List Client) (cs : List Cell) (fit : ClientsFit 
     listed = listed_changed p c Unconnected clients cs cs fit now;
     senders = fit.senders;
     quiet = λ k none. none;
-    seats = λ k. omega arith;
+    owned_chain = λ k. omega arith;
   }
     where
       now : Changes c Unconnected cs cs

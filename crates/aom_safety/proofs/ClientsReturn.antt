@@ -8,20 +8,20 @@ use Rattle.aom_image.specs.declared.method.Gives.{Gives}
 use Rattle.aom_clients.specs.declared.client.Client.{Client}
 use Rattle.aom_safety.proofs.ClientsFacts.{IsAt}
 use Rattle.aom_safety.proofs.ClientsFit.{IsFit, fit_accepted}
-use Rattle.aom_safety.proofs.ClientsSteady.{Steady, carried_sifted, fit_steady, quiet_cell, sender_stays}
+use Rattle.aom_safety.proofs.ClientsSteady.{Steady, carried_filtered_cells, fit_steady, quiet_cell, sender_stays}
 use Rattle.aom_safety.proofs.ClientsMoves.{NoQueue, steady_moved, steady_result, tasks_queues, tasks_steady}
 use Rattle.aom_safety.proofs.SemanticsLemmas.{named_moved, requested_moved, same_place-true, same_place_comm}
-use Rattle.aom_safety.proofs.Sifted.{cell_in, cell_of, cell_placed, held_cell, object_in, sifted, clients_sifted}
+use Rattle.aom_safety.proofs.FilteredCells.{cell_in, cell_of, cell_placed, held_cell, object_in, filtered_cells, clients_filtered_cells}
 use Rattle.aom_semantics.specs.Calls.{answered_by, result_cells, returned}
 use Rattle.aom_semantics.specs.Clients.{most_of}
 use Rattle.aom_safety.specs.Kept.{ClientsFit, TasksKept, is_connect_of, is_message_of}
-use Rattle.aom_semantics.specs.Places.{Cell, Elsewhere, Object, Place, Queued, Session, Tidy, held, moved, named, same_place, service_of, without, requested}
+use Rattle.aom_semantics.specs.Places.{Cell, Elsewhere, Object, Place, Queued, Session, NoDuplicates, held, moved, named, same_place, service_of, without, requested}
 use Rattle.aom_semantics.specs.Servers.{is_server}
-use Rattle.aom_semantics.specs.State.{Home, Accept_left, Accepts, Destroy, Dispatch, Dispatched, Frame}
-use Rattle.aom_semantics.specs.State.{Of_server, Parts, Run, Seat, State, Task, Trapped, Unwind}
+use Rattle.aom_semantics.specs.State.{Receiver, Accept_left, Accepts, Destroy, Dispatch, Dispatched, Frame}
+use Rattle.aom_semantics.specs.State.{Of_server, Disconnects, Run, OwnedObject, State, Task, Trapped, Unwind}
 use Rattle.aom_semantics.specs.Words.{here}
 use Rattle.aom_semantics.specs.Requests.{thing_kind}
-use Rattle.aom_safety.proofs.Seated.{seats_same}
+use Rattle.aom_safety.proofs.OwnedPlaced.{owned_objects_same}
 use Rattle.std.specs.Prelude.{is_some}
 
 -- the same clients with the same cells, whatever is at hand
@@ -47,7 +47,7 @@ module _ (p : Image) (fr : Frame) (ts : List Task) (s : State) (fit : ClientsFit
 
   -- to the dispatch of a server
   module _ (g : Gives) (a : ℕ) (below : List Task) where
-    accept_kept : (x : Seat) (c : ℕ) → named s.cells x.object.name ≡ Some x.object → is_server p x.object.thing ≡ true →
+    accept_kept : (x : OwnedObject) (c : ℕ) → named s.cells x.object.name ≡ Some x.object → is_server p x.object.thing ≡ true →
         is_some (requested s.cells x.object.name) ≡ true → TasksKept p s.clients s.cells (Dispatched (Of_server x c Accepts) ∷ below) →
         IsFit p (returned p fr ts s g a (Trapped ∷ Dispatched (Of_server x c Accepts) ∷ below))
     accept_kept x c lives serves listed stage =
@@ -57,17 +57,17 @@ module _ (p : Image) (fr : Frame) (ts : List Task) (s : State) (fit : ClientsFit
               ts s a) (Elsewhere (Session x.object.name c)) s.cells) still fit) x.object (named_moved s.cells (here fr ts s a) (Elsewhere (Session x.object.name
               c)) x.object.name ∙ lives) serves (ap is_some (requested_moved s.cells (here fr ts s a) (Elsewhere (Session x.object.name c)) x.object.name)
               ∙ listed) c _ stage.0 (ap (λ q. list_any (is_connect_of c) q) (still.queues x.object.name) ∙ stage.1) (subst (λ n. n < most_of
-              (thing_kind p x.object.thing)) (sym (seats_same (service_of (moved (here fr ts s a) (Elsewhere (Session x.object.name c)) s.cells) x.object.name)
+              (thing_kind p x.object.thing)) (sym (owned_objects_same (service_of (moved (here fr ts s a) (Elsewhere (Session x.object.name c)) s.cells) x.object.name)
               (service_of s.cells x.object.name) (still.queues x.object.name) (still.sessions x.object.name))) stage.2);
           stage = tt;
         }
 
-    ended_kept : (d : Dispatch) → ((x : Seat) (c : ℕ) → d ≡ Of_server x c Accepts →
+    ended_kept : (d : Dispatch) → ((x : OwnedObject) (c : ℕ) → d ≡ Of_server x c Accepts →
         (named s.cells x.object.name ≡ Some x.object) × (is_server p x.object.thing ≡ true) × (is_some (requested s.cells x.object.name) ≡ true)) →
         TasksKept p s.clients s.cells (Dispatched d ∷ below) → IsFit p (returned p fr ts s g a (Trapped ∷ Dispatched d ∷ below))
     ended_kept (Of_server x c Accepts) there stage = let l = there x c refl in accept_kept x c l.0 l.1 l.2 stage
     ended_kept (Of_server x c (Accept_left code)) there stage = same_cells p s fit _ refl refl stage
-    ended_kept (Of_server x c Parts) there stage = same_cells p s fit _ refl refl stage
+    ended_kept (Of_server x c Disconnects) there stage = same_cells p s fit _ refl refl stage
     ended_kept _ there stage = same_cells p s fit _ refl refl tt
 
   answered_stage : (answer : ℤ) (d : Dispatch) (below : List Task) → TasksKept p s.clients s.cells (Dispatched d ∷ below) →
@@ -75,57 +75,57 @@ module _ (p : Image) (fr : Frame) (ts : List Task) (s : State) (fit : ClientsFit
   answered_stage answer x below k = grind arith
 
   -- the next destructor of a line, or the cell
-  line_kept : (m : ℕ) (home : Home) (height : ℕ) (below : List Task) → TasksKept p s.clients s.cells (Destroy ∷ below) →
-      TasksKept p s.clients s.cells (line_on p m home height below)
+  line_kept : (m : ℕ) (receiver : Receiver) (height : ℕ) (below : List Task) → TasksKept p s.clients s.cells (Destroy ∷ below) →
+      TasksKept p s.clients s.cells (line_on p m receiver height below)
   line_kept m x height below k = grind arith
 
   -- to whatever is below; where it is the end of `accept`, its server stands
-  pub return_kept : (g : Gives) (a : ℕ) (below : List Task) → ((x : Seat) (c : ℕ) → IsAt (Of_server x c Accepts) below →
+  pub return_kept : (g : Gives) (a : ℕ) (below : List Task) → ((x : OwnedObject) (c : ℕ) → IsAt (Of_server x c Accepts) below →
       (named s.cells x.object.name ≡ Some x.object) × (is_server p x.object.thing ≡ true) × (is_some (requested s.cells x.object.name) ≡ true)) →
       s.tasks ≡ Run fr ∷ ts → TasksKept p s.clients s.cells below → TasksKept p s.clients s.cells ts → IsFit p (returned p fr ts s g a below)
   return_kept g a (Run caller ∷ below) there tasks stage all = result_kept g a _ below _ refl refl refl (λ cs k. k) stage
   return_kept g a (Trapped ∷ Run caller ∷ below) there tasks stage all = result_kept g a _ below _ refl refl refl (λ cs k. k) stage
   return_kept g a (Trapped ∷ Dispatched d ∷ below) there tasks stage all = ended_kept g a below d there stage
-  return_kept g a (Destroy ∷ below) there tasks stage all = same_cells p s fit _ refl refl (line_kept fr.method fr.home fr.height below stage)
+  return_kept g a (Destroy ∷ below) there tasks stage all = same_cells p s fit _ refl refl (line_kept fr.method fr.receiver fr.height below stage)
   return_kept g a (Unwind code ∷ below) there tasks stage all = same_cells p s fit _ refl refl stage
   return_kept g a (Dispatched d ∷ below) there tasks stage all = same_cells p s fit _ refl refl (answered_stage _ d below stage)
   return_kept g a _ there tasks stage all = same_cells p s fit s refl refl (subst (λ l. TasksKept p s.clients s.cells l) (sym tasks) all)
 
 -- ---- a cell goes of which clients have nothing
 
-pub without_so : (g : Place) (cs : List Cell) → without g cs ≡ sifted (λ c. same_place c.owner g) (λ c. c.service) cs
+pub without_so : (g : Place) (cs : List Cell) → without g cs ≡ filtered_cells (λ c. same_place c.owner g) (λ c. c.service) cs
 without_so g [] = refl
 without_so g (c ∷ cs) = ap (λ l. cond (same_place c.owner g) l (c ∷ l)) (without_so g cs)
 
-module _ (p : Image) (clients : List Client) (cs : List Cell) (tidy : Tidy cs)
+module _ (p : Image) (clients : List Client) (cs : List Cell) (no_duplicates : NoDuplicates cs)
     (fit : ClientsFit p clients cs) (o : Object) (g : Place) (there : held cs g ≡ Some o) (apart : NoQueue g) (plain : is_server p o.thing ≡ false)
     (queued : (n c m : ℕ) → list_any (is_message_of c m) (service_of cs n).queue ≡ true → (x : Object) × (held cs (Elsewhere (Queued n m)) ≡ Some x)) where
   abbrev drops : Cell → Bool
   drops c = same_place c.owner g
 
   abbrev left : List Cell
-  left = sifted drops (λ c. c.service) cs
+  left = filtered_cells drops (λ c. c.service) cs
 
   -- it is that cell
   empty : (n : ℕ) (x : Cell) → cell_of cs n ≡ Some x → drops x ≡ true → (x.service.queue ≡ []) × (x.service.sessions ≡ [])
   empty n x e goes =
-      let in_place : cell_in cs x.owner ≡ Some x = cell_placed cs n x tidy e in
+      let in_place : cell_in cs x.owner ≡ Some x = cell_placed cs n x no_duplicates e in
       let one : Some x.object ≡ Some o = sym (held_cell cs x.owner ∙ ap object_in in_place) ∙ ap (λ q. held cs q) (same_place-true x.owner g goes) ∙ there in
       let equal : x.object ≡ o = cc in
-      quiet_cell p clients cs tidy fit n x e (ap (λ y. is_server p y.thing) equal ∙ plain)
+      quiet_cell p clients cs no_duplicates fit n x e (ap (λ y. is_server p y.thing) equal ∙ plain)
 
   service_left : (n : ℕ) → ((service_of left n).queue ≡ (service_of cs n).queue) × ((service_of left n).sessions ≡ (service_of cs n).sessions)
-  service_left n = clients_sifted drops cs tidy n (empty n)
+  service_left n = clients_filtered_cells drops cs no_duplicates n (empty n)
 
   stays : (n m : ℕ) (y : Cell) → y.owner ≡ Elsewhere (Queued n m) → drops y ≡ false
   stays n m y owner = ap (λ q. same_place q g) owner ∙ same_place_comm (Elsewhere (Queued n m)) g ∙ apart n m
 
   steady_left : Steady cs left
   steady_left = record {
-    carried = carried_sifted drops (λ c. c.service) (λ c. refl) (λ c. refl) cs tidy;
+    carried = carried_filtered_cells drops (λ c. c.service) (λ c. refl) (λ c. refl) cs no_duplicates;
     queues = λ n. (service_left n).0;
     sessions = λ n. (service_left n).1;
-    senders = λ n d m h from. sender_stays p clients cs tidy fit drops queued n d m (stays n m) h;
+    senders = λ n d m h from. sender_stays p clients cs no_duplicates fit drops queued n d m (stays n m) h;
   }
 
   pub fit_without : ClientsFit p clients (without g cs)

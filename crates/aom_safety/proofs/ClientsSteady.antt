@@ -7,18 +7,18 @@ use Rattle.aom_image.specs.Image.{Image}
 use Rattle.aom_clients.specs.Table.{server_of}
 use Rattle.aom_clients.specs.declared.client.Client.{Client}
 use Rattle.aom_roles.specs.Things.{is_object}
-use Rattle.aom_safety.proofs.Seated.{seats_same}
+use Rattle.aom_safety.proofs.OwnedPlaced.{owned_objects_same}
 use Rattle.aom_safety.proofs.Services.{service_unnamed}
-use Rattle.aom_safety.proofs.Sifted.{a_cell_of, cell_in, cell_lives, cell_of, cell_owner, cell_placed, held_cell, named_before, named_cell}
-use Rattle.aom_safety.proofs.Sifted.{object_in, placed_before, requested_before, service_cell, service_in, service_sifted, sifted}
-use Rattle.aom_safety.proofs.Sources.{served_as, served_sifted, sources_as, sources_sifted}
+use Rattle.aom_safety.proofs.FilteredCells.{a_cell_of, cell_in, cell_lives, cell_of, cell_owner, cell_placed, held_cell, named_before, named_cell}
+use Rattle.aom_safety.proofs.FilteredCells.{object_in, placed_before, requested_before, service_cell, service_in, service_filtered_cells, filtered_cells}
+use Rattle.aom_safety.proofs.Sources.{served_as, served_filtered_cells, sources_as, sources_filtered_cells}
 use Rattle.aom_safety.specs.Kept.{ClientsFit, HasSources, QueueFits, ServesSent, is_message_of, sources_of}
 use Rattle.aom_safety.proofs.SemanticsLemmas.{requested_unnamed, same_place-true}
 use Rattle.aom_semantics.specs.Clients.{client_at, most_of}
 use Rattle.aom_semantics.specs.Requests.{thing_kind}
-use Rattle.aom_semantics.specs.Places.{Cell, Elsewhere, In_service, Object, Place, Queued, Service, Tidy}
+use Rattle.aom_semantics.specs.Places.{Cell, Elsewhere, In_service, Object, Place, Queued, Service, NoDuplicates}
 use Rattle.aom_semantics.specs.Places.{held, named, requested, same_place, service_of, unserved}
-use Rattle.aom_semantics.specs.Servers.{has_session, is_among, is_from, is_server, seats_taken}
+use Rattle.aom_semantics.specs.Servers.{has_session, is_among, is_from, is_server, sessions_in_use}
 
 -- ---- what is kept of cells, whatever clients are at
 
@@ -41,15 +41,15 @@ pub carried_itself : (cs : List Cell) → Carried cs cs
 carried_itself cs = record { lived = λ o h. inl h; enlisted = λ o h e. e; names = λ h. h; sources = λ h. h; served = λ h. h }
 
 -- some cells go, and those that stay have their senders and tokens
-pub carried_sifted : (drops : Cell → Bool) (f : Cell → Service) → ((c : Cell) → sources_of (f c) ≡ sources_of c.service) →
-    ((c : Cell) → is_some (f c).sender ≡ is_some c.service.sender) → (cs : List Cell) → Tidy cs → Carried cs (sifted drops f cs)
-carried_sifted drops f sources senders cs tidy = record {
-  lived = λ o h. let b = named_before drops f cs o.name o tidy h in inl (named_cell cs o.name ∙ ap object_in b.1 ∙ ap (λ y. Some y) b.2);
-  enlisted = λ o h e. sym (requested_before drops f cs o.name o tidy h) ∙ e;
-  names = λ was n m o h. let b = placed_before drops f cs (Elsewhere (Queued n m)) o tidy h in
+pub carried_filtered_cells : (drops : Cell → Bool) (f : Cell → Service) → ((c : Cell) → sources_of (f c) ≡ sources_of c.service) →
+    ((c : Cell) → is_some (f c).sender ≡ is_some c.service.sender) → (cs : List Cell) → NoDuplicates cs → Carried cs (filtered_cells drops f cs)
+carried_filtered_cells drops f sources senders cs no_duplicates = record {
+  lived = λ o h. let b = named_before drops f cs o.name o no_duplicates h in inl (named_cell cs o.name ∙ ap object_in b.1 ∙ ap (λ y. Some y) b.2);
+  enlisted = λ o h e. sym (requested_before drops f cs o.name o no_duplicates h) ∙ e;
+  names = λ was n m o h. let b = placed_before drops f cs (Elsewhere (Queued n m)) o no_duplicates h in
       was n m o (held_cell cs (Elsewhere (Queued n m)) ∙ ap object_in b.1 ∙ ap (λ y. Some y) b.2);
-  sources = sources_sifted drops f sources cs tidy;
-  served = served_sifted drops f senders cs tidy;
+  sources = sources_filtered_cells drops f sources cs no_duplicates;
+  served = served_filtered_cells drops f senders cs no_duplicates;
 }
 
 -- ---- servers have no more than they had
@@ -66,7 +66,7 @@ pub record Eased (clients : List Client) (cs cs' : List Cell) : Type 0 where
   pub listed : (n c : ℕ) → server_of (client_at clients c) ≡ Some n → has_session (service_of cs' n) c ≡ true
   pub senders : (n c m : ℕ) → list_any (is_message_of c m) (service_of cs' n).queue ≡ true → is_from c (service_of cs' m).sender ≡ true
   pub quiet : (n : ℕ) → IsQuiet (service_of cs n) → IsQuiet (service_of cs' n)
-  pub seats : (n : ℕ) → seats_taken (service_of cs' n) ≤ seats_taken (service_of cs n)
+  pub owned_chain : (n : ℕ) → sessions_in_use (service_of cs' n) ≤ sessions_in_use (service_of cs n)
 
 pub fit_eased : (p : Image) (clients clients' : List Client) (cs cs' : List Cell) → ClientsFit p clients cs → Eased clients' cs cs' → ClientsFit p clients' cs'
 fit_eased p clients clients' cs cs' fit e = record {
@@ -79,16 +79,16 @@ fit_eased p clients clients' cs cs' fit e = record {
   senders = e.senders;
   sources = e.carried.sources fit.sources;
   served = e.carried.served fit.served;
-  seats = λ o h. seats o (e.carried.lived o h);
+  owned_chain = λ o h. owned_chain o (e.carried.lived o h);
 }
   where
     quiet : (o : Object) → Lived cs o → (named cs o.name ≡ Some o → IsQuiet (service_of cs o.name)) → IsQuiet (service_of cs' o.name)
     quiet o (inl was) none = e.quiet o.name (none was)
     quiet o (inr new) none = e.quiet o.name (subst IsQuiet (sym (service_unnamed cs o.name new)) (refl, refl))
 
-    seats : (o : Object) → Lived cs o → seats_taken (service_of cs' o.name) ≤ most_of (thing_kind p o.thing)
-    seats o (inl was) = let fewer = e.seats o.name in let all = fit.seats o was in omega (arith, fewer, all)
-    seats o (inr new) = let fewer = e.seats o.name in let none : seats_taken (service_of cs o.name) ≡ 0 = ap seats_taken (service_unnamed cs o.name new) in
+    owned_chain : (o : Object) → Lived cs o → sessions_in_use (service_of cs' o.name) ≤ most_of (thing_kind p o.thing)
+    owned_chain o (inl was) = let fewer = e.owned_chain o.name in let all = fit.owned_chain o was in omega (arith, fewer, all)
+    owned_chain o (inr new) = let fewer = e.owned_chain o.name in let none : sessions_in_use (service_of cs o.name) ≡ 0 = ap sessions_in_use (service_unnamed cs o.name new) in
         omega (arith, fewer, none)
 
 -- ---- servers have what they had
@@ -109,7 +109,7 @@ fit_steady p clients cs cs' still fit = fit_eased p clients clients cs cs' fit r
   listed = λ n c h. ap (is_among c) (still.sessions n) ∙ fit.listed n c h;
   senders = λ n c m h. let was = ap (list_any (is_message_of c m)) (sym (still.queues n)) ∙ h in still.senders n c m was (fit.senders n c m was);
   quiet = λ n none. (still.queues n ∙ none.0, still.sessions n ∙ none.1);
-  seats = λ n. let same = seats_same (service_of cs' n) (service_of cs n) (still.queues n) (still.sessions n) in omega (arith, same);
+  owned_chain = λ n. let same = owned_objects_same (service_of cs' n) (service_of cs n) (still.queues n) (still.sessions n) in omega (arith, same);
 }
 
 pub steady_itself : (cs : List Cell) → Steady cs cs
@@ -227,28 +227,28 @@ steady_more x cs free queue sessions named_so source aside = record {
 
 -- ---- a cell that goes, and one that stays
 
-module _ (p : Image) (clients : List Client) (cs : List Cell) (tidy : Tidy cs) (fit : ClientsFit p clients cs) where
+module _ (p : Image) (clients : List Client) (cs : List Cell) (no_duplicates : NoDuplicates cs) (fit : ClientsFit p clients cs) where
   -- of what is no server nobody asks anything
   pub quiet_cell : (n : ℕ) (x : Cell) → cell_of cs n ≡ Some x → is_server p x.object.thing ≡ false → IsQuiet x.service
   quiet_cell n x e plain =
-      let lives = cell_lives cs x.owner x tidy (cell_placed cs n x tidy e) in
+      let lives = cell_lives cs x.owner x no_duplicates (cell_placed cs n x no_duplicates e) in
       subst IsQuiet (service_cell cs x.object.name ∙ ap service_in lives) (fit.servers x.object (named_cell cs x.object.name ∙ ap object_in lives) plain)
 
   -- nor of what waits in a queue
   pub quiet_waiting : ((n m : ℕ) (o : Object) → held cs (Elsewhere (Queued n m)) ≡ Some o → is_server p o.thing ≡ false) →
       (n : ℕ) (x : Cell) → cell_of cs n ≡ Some x → (k m : ℕ) → x.owner ≡ Elsewhere (Queued k m) → IsQuiet x.service
   quiet_waiting waiting n x e k m at =
-      quiet_cell n x e (waiting k m x.object (ap (held cs) (sym at) ∙ held_cell cs x.owner ∙ ap object_in (cell_placed cs n x tidy e)))
+      quiet_cell n x e (waiting k m x.object (ap (held cs) (sym at) ∙ held_cell cs x.owner ∙ ap object_in (cell_placed cs n x no_duplicates e)))
 
   -- a message that stays in its queue has its sender still
   pub sender_stays : (drops : Cell → Bool) → ((n c m : ℕ) → list_any (is_message_of c m) (service_of cs n).queue ≡ true →
       (x : Object) × (held cs (Elsewhere (Queued n m)) ≡ Some x)) → (n d m : ℕ) → ((y : Cell) → y.owner ≡ Elsewhere (Queued n m) → drops y ≡ false) →
-      list_any (is_message_of d m) (service_of cs n).queue ≡ true → is_from d (service_of (sifted drops (λ c. c.service) cs) m).sender ≡ true
+      list_any (is_message_of d m) (service_of cs n).queue ≡ true → is_from d (service_of (filtered_cells drops (λ c. c.service) cs) m).sender ≡ true
   sender_stays drops queued n d m stays h =
       let x = queued n d m h in
       let y = a_cell_of (cell_in cs (Elsewhere (Queued n m))) x.0 (sym (held_cell cs (Elsewhere (Queued n m))) ∙ x.1) in
-      let lives : cell_of cs y.0.object.name ≡ Some y.0 = cell_lives cs (Elsewhere (Queued n m)) y.0 tidy y.1 in
+      let lives : cell_of cs y.0.object.name ≡ Some y.0 = cell_lives cs (Elsewhere (Queued n m)) y.0 no_duplicates y.1 in
       let name : y.0.object.name ≡ m = ap (λ z. z.name) y.2 ∙ fit.names n m x.0 x.1 in
       let here : cell_of cs m ≡ Some y.0 = ap (cell_of cs) (sym name) ∙ lives in
-      let left = service_sifted drops (λ c. c.service) cs tidy m y.0 here (stays y.0 (cell_owner cs (Elsewhere (Queued n m)) y.0 y.1)) in
+      let left = service_filtered_cells drops (λ c. c.service) cs no_duplicates m y.0 here (stays y.0 (cell_owner cs (Elsewhere (Queued n m)) y.0 y.1)) in
       subst (λ v. is_from d v.sender ≡ true) (service_cell cs m ∙ ap service_in here ∙ sym left) (fit.senders n d m h)

@@ -5,19 +5,19 @@ use Rattle.std.specs.List.{list_any}
 use Rattle.std.specs.Prelude.{◌&&◌, ◌||◌, is_some}
 use Rattle.aom_image.specs.Image.{Image}
 use Rattle.aom_image.specs.declared.method.Role.TheVariants.{Accept as Accepts_role, Run as Handles, Service as Attends_role}
-use Rattle.aom_shape.specs.declared.kind.Kind.TheVariants.{Null}
+use Rattle.aom_abstract_state.specs.declared.kind.Kind.TheVariants.{Null}
 use Rattle.aom_clients.specs.Table.{server_of}
 use Rattle.aom_clients.specs.declared.client.Client.{Client}
-use Rattle.aom_rules.specs.Typing.{Typing}
+use Rattle.aom_typing_rules.specs.Typing.{Typing}
 use Rattle.aom_safety.proofs.ClientsCommand.{fit_commanded}
 use Rattle.aom_safety.proofs.ClientsFacts.{waiting_well}
 use Rattle.aom_safety.proofs.ClientsFit.{IsFit, by_server, fit_reserved, sent_then}
 pub use Rattle.aom_safety.proofs.ClientsSteady.{Same, fit_same}
 use Rattle.aom_safety.proofs.ClientsSteady.{fit_steady, steady_as}
 use Rattle.aom_safety.proofs.SemanticsLemmas.{held_moved, named_moved, requested_moved, requested_unnamed}
-use Rattle.aom_safety.proofs.Services.{held_served, service_asked, service_bereaved, service_here, service_moved}
+use Rattle.aom_safety.proofs.Services.{held_served, service_asked, service_detached, service_here, service_moved}
 use Rattle.aom_safety.proofs.Signals.{at_rest}
-use Rattle.aom_safety.proofs.Storing.{bereaved_alike, rerequested_alike, requested_here, requested_there}
+use Rattle.aom_safety.proofs.Storing.{detached_alike, request_updated_alike, requested_here, requested_there}
 use Rattle.aom_safety.proofs.Straight.{fits_unowning}
 use Rattle.aom_safety.proofs.Turned.{Polled, answers, commanded_kept, dispatched_so, nothing, polled_so}
 use Rattle.aom_safety.proofs.Guarded.{goes_some, goes_same}
@@ -26,20 +26,20 @@ use Rattle.aom_safety.specs.Claims.{declared}
 use Rattle.aom_semantics.specs.Clients.{client_at, most_of}
 use Rattle.aom_semantics.specs.Destruction.{begun}
 use Rattle.aom_semantics.specs.Requests.{completed_with, on_request, part_of, recorded, timed_out, thing_kind, taken_up}
-use Rattle.aom_semantics.specs.Natives.{all_bereaved, is_served_by, terminated_request, is_owed, terminated}
+use Rattle.aom_semantics.specs.Natives.{all_detached, is_served_by, terminated_request, is_owed, terminated}
 use Rattle.aom_safety.specs.Kept.{ClientsFit, QueueFits, ServesSent, TasksKept, is_connect_of, is_message_of}
 use Rattle.aom_safety.specs.Laws.{IsWired}
 use Rattle.aom_semantics.specs.Places.{Asked, Cell, Close_of, Connect_of, Elsewhere, Going, In_service, Message_of, Object, Place, Queued}
 use Rattle.aom_semantics.specs.Places.{Request, Root, Session, held, moved, named, requested, same_place, seen, service_of, set_request}
-use Rattle.aom_semantics.specs.Servers.{has_session, is_server, reserved, rest_of as rest, taken_first, seats_taken}
-use Rattle.aom_semantics.specs.State.{NullOrDead, WrongKind, Goes, Inside, Seat, State, Task}
+use Rattle.aom_semantics.specs.Servers.{has_session, is_server, reserved, rest_of as rest, taken_first, sessions_in_use}
+use Rattle.aom_semantics.specs.State.{NullOrDead, WrongKind, Goes, Inside, OwnedObject, State, Task}
 use Rattle.aom_safety.specs.WellTyped.{Fits, Good, WellTyped}
-use Rattle.aom_semantics.specs.World.{Candidate, Completes, Completion, Cuts, Heard, Hears, Kills, Obeys, Environment, Picks, Polls, Strays, Timed}
-use Rattle.aom_semantics.specs.World.{Turning, accepting, attended, attending, by_event, by_timer, delivers, dispatched, first_ready, heard_one, lives}
+use Rattle.aom_semantics.specs.World.{Candidate, Completes, Completion, Cuts, Observed, Observes, Kills, Executes, Environment, Picks, Polls, Strays, Timed}
+use Rattle.aom_semantics.specs.World.{Turning, accepting, attended, attending, by_event, by_timer, delivers, dispatched, first_ready, observed_one, lives}
 use Rattle.aom_semantics.specs.World.{parting_with, picks, picked, polls, serves_first, taken_from, turn, turned, turning, with_request}
 use Rattle.aom_transcript.specs.declared.event.Event.{Event}
 use Rattle.aom_transcript.specs.declared.event.TimedEvent.{TimedEvent}
-use Rattle.aom_safety.proofs.Seated.{seats_first, seats_rest}
+use Rattle.aom_safety.proofs.OwnedPlaced.{owned_objects_first, owned_objects_rest}
 use Rattle.aom_safety.proofs.Sources.{from_some, has_sender}
 use Rattle.std.proofs.lemmas.Bool.{eq-eqb, eqb-true}
 
@@ -53,9 +53,9 @@ pub listed_asked : (cs : List Cell) (m : ℕ) (r : Option Request) → (r ≡ No
     requested (set_request m r cs) n ≡ None → requested cs n ≡ None
 listed_asked cs m r keeps n e = grind (arith, nat_tests, requested_unnamed cs m, requested_here cs m r, eqb-true m n, requested_there cs m n r)
 
-listed_bereaved : (p : Image) (n : ℕ) (cs : List Cell) (m : ℕ) → requested (all_bereaved p n cs) m ≡ None → requested cs m ≡ None
-listed_bereaved p n [] m e = e
-listed_bereaved p n (c ∷ cs) m e = go (c.object.name == m) e (listed_bereaved p n cs m)
+listed_detached : (p : Image) (n : ℕ) (cs : List Cell) (m : ℕ) → requested (all_detached p n cs) m ≡ None → requested cs m ≡ None
+listed_detached p n [] m e = e
+listed_detached p n (c ∷ cs) m e = go (c.object.name == m) e (listed_detached p n cs m)
   where
     ends : (b : Bool) (r : Option Request) → cond b (terminated_request r) r ≡ None → r ≡ None
     ends true None e = refl
@@ -65,19 +65,19 @@ listed_bereaved p n (c ∷ cs) m e = go (c.object.name == m) e (listed_bereaved 
         owed x e = grind arith
     ends false r e = e
 
-    go : (b : Bool) → cond b (cond (is_served_by p n c.object.thing) (terminated_request c.request) c.request) (requested (all_bereaved p n cs) m) ≡ None →
-        (requested (all_bereaved p n cs) m ≡ None → requested cs m ≡ None) → cond b c.request (requested cs m) ≡ None
+    go : (b : Bool) → cond b (cond (is_served_by p n c.object.thing) (terminated_request c.request) c.request) (requested (all_detached p n cs) m) ≡ None →
+        (requested (all_detached p n cs) m ≡ None → requested cs m ≡ None) → cond b c.request (requested cs m) ≡ None
     go true e rest = ends (is_served_by p n c.object.thing) c.request e
     go false e rest = rest e
 
 pub same_requested : (cs : List Cell) (o : Object) (r : Option Request) → (r ≡ None → requested cs o.name ≡ None) → Same cs (set_request o.name r cs)
 same_requested cs o r keeps =
-    let like = rerequested_alike cs (Inside o (Elsewhere Root)) r in
+    let like = request_updated_alike cs (Inside o (Elsewhere Root)) r in
     record { service_so = service_asked cs o.name r; named_so = like.named_so; held_so = like.held_so; listed_so = listed_asked cs o.name r keeps }
 
-pub same_bereaved : (p : Image) (n : ℕ) (cs : List Cell) → Same cs (all_bereaved p n cs)
-same_bereaved p n cs = let like = bereaved_alike p n cs in
-    record { service_so = service_bereaved p n cs; named_so = like.named_so; held_so = like.held_so; listed_so = listed_bereaved p n cs }
+pub same_detached : (p : Image) (n : ℕ) (cs : List Cell) → Same cs (all_detached p n cs)
+same_detached p n cs = let like = detached_alike p n cs in
+    record { service_so = service_detached p n cs; named_so = like.named_so; held_so = like.held_so; listed_so = listed_detached p n cs }
 
 -- what is owned elsewhere, but in no queue; what comes to be served has a sender
 pub fit_moved : (p : Image) (clients : List Client) (cs : List Cell) (a b : Place) → held cs b ≡ None →
@@ -115,7 +115,7 @@ fit_taken p clients cs o lives listed e es queue fit = fit_reserved p clients cs
     (λ n v. (d : ℕ) → has_session v d ≡ true → server_of (client_at clients d) ≡ Some n) (fit.sessions o.name) (λ n other. fit.sessions n)) (by_server cs
     o lives taken_first (λ n v. (d : ℕ) → server_of (client_at clients d) ≡ Some n → has_session v d ≡ true) (fit.listed o.name) (λ n other. fit.listed n)) (λ
     d m h. fit.senders o.name d m (ap (list_any (is_message_of d m)) queue ∙ or_right (is_message_of d m e) (list_any (is_message_of d m) es) (ap (λ q. list_any
-    (is_message_of d m) (rest q)) (sym queue) ∙ h))) (let less = seats_rest (service_of cs o.name) in let was = fit.seats o lives in omega (arith, less, was))
+    (is_message_of d m) (rest q)) (sym queue) ∙ h))) (let less = owned_objects_rest (service_of cs o.name) in let was = fit.owned_chain o lives in omega (arith, less, was))
   where
     or_right : (b x : Bool) → x ≡ true → (b || x) ≡ true
     or_right x y h = grind arith
@@ -153,7 +153,7 @@ module _ (p : Image) (t : Typing) (wired : IsWired p) (s : State) (w : WellTyped
 
   -- ---- a pick
 
-  module _ (x : Seat) (there : named s.cells x.object.name ≡ Some x.object) (listed : is_some (requested s.cells x.object.name) ≡ true) (u : State) where
+  module _ (x : OwnedObject) (there : named s.cells x.object.name ≡ Some x.object) (listed : is_some (requested s.cells x.object.name) ≡ true) (u : State) where
     abbrev n : ℕ
     n = x.object.name
 
@@ -181,8 +181,8 @@ module _ (p : Image) (t : Typing) (wired : IsWired p) (s : State) (w : WellTyped
         subst (λ v. IsFit p v) (goes_same _ u method.2)
         (record { fit = taken (Connect_of c) es queue; stage = (first.0.0, ap (λ q. list_any (is_connect_of c) q) (queue_now (Connect_of c) es queue) ∙ first.0.1, room) })
       where
-        room : seats_taken (service_of cs n) < most_of (thing_kind p x.object.thing)
-        room = grind (arith, nat_tests, seats_first, service_here s.cells)
+        room : sessions_in_use (service_of cs n) < most_of (thing_kind p x.object.thing)
+        room = grind (arith, nat_tests, owned_objects_first, service_here s.cells)
 
     message_kept : (c m : ℕ) (es : List Asked) → (service_of s.cells n).queue ≡ Message_of c m ∷ es → (o : Option Object) →
         attended p x c o m (taken_from n s) ≡ Goes u → IsFit p u
@@ -227,7 +227,7 @@ module _ (p : Image) (t : Typing) (wired : IsWired p) (s : State) (w : WellTyped
 
   -- what is picked stands, and the name that is heard is free
   abbrev pub IsFound : Turning → Type 0
-  IsFound (Obeys client command name) = named s.cells name ≡ None
+  IsFound (Executes client command name) = named s.cells name ≡ None
   IsFound (Picks x) = (named s.cells x.object.name ≡ Some x.object) × (is_some (requested s.cells x.object.name) ≡ true)
   IsFound _ = Unit {0}
 
@@ -247,9 +247,9 @@ module _ (p : Image) (t : Typing) (wired : IsWired p) (s : State) (w : WellTyped
   turned_kept : (k : Turning) → IsFound k → (u : State) → turned p s k ≡ Goes u → IsFit p u
   turned_kept Cuts f u e = subst (λ v. IsFit p v) (goes_same _ u e) (same_kept _ refl refl idle_now)
   turned_kept (Completes o) f u e = subst (λ v. IsFit p v) (goes_same _ u e) (requested_kept timed_out o _ refl refl idle_now)
-  turned_kept Hears f u e = subst (λ v. IsFit p v) (goes_same _ u e) (same_kept _ refl refl idle_now)
+  turned_kept Observes f u e = subst (λ v. IsFit p v) (goes_same _ u e) (same_kept _ refl refl idle_now)
   turned_kept (Kills n) f u e = subst (λ v. IsFit p v) (goes_same _ u e)
-      (record { fit = fit_same p s.clients s.cells (all_bereaved p n s.cells) (same_bereaved p n s.cells) kept.fit; stage = stage_idle s.clients (all_bereaved p n s.cells) s.tasks idle_now })
+      (record { fit = fit_same p s.clients s.cells (all_detached p n s.cells) (same_detached p n s.cells) kept.fit; stage = stage_idle s.clients (all_detached p n s.cells) s.tasks idle_now })
   turned_kept (Polls n answer) f u e = go u (polled_so p s u n answer e)
     where
       go : (u : State) → Polled n s u → IsFit p u
@@ -257,9 +257,9 @@ module _ (p : Image) (t : Typing) (wired : IsWired p) (s : State) (w : WellTyped
         | nothing ↦ same_kept _ refl refl idle_now
         | answers o code ↦ requested_kept (completed_with (recorded code)) o _ refl refl idle_now
       ]
-  turned_kept (Obeys client command name) f u e = subst (λ v. IsFit p v) (goes_same _ u e) (record {
-    fit = fit_commanded p client (heard_one s) good.tidy kept.fit (waiting_well p t wired s w) command name f;
-    stage = stage_idle _ _ _ ((commanded_kept p client (heard_one s) command name).1 ∙ idle_now);
+  turned_kept (Executes client command name) f u e = subst (λ v. IsFit p v) (goes_same _ u e) (record {
+    fit = fit_commanded p client (observed_one s) good.no_duplicates kept.fit (waiting_well p t wired s w) command name f;
+    stage = stage_idle _ _ _ ((commanded_kept p client (observed_one s) command name).1 ∙ idle_now);
   })
   turned_kept (Picks x) f u e = picked_kept x f.0 f.1 u e
   turned_kept Strays f u e = cc
@@ -268,7 +268,7 @@ module _ (p : Image) (t : Typing) (wired : IsWired p) (s : State) (w : WellTyped
   -- each turn is such
   picks_found : (b : Bool) (y : Option Candidate) → first_ready s.cells ≡ y → (next : Option ℕ) → IsFound (picks b y next)
   picks_found true None e next = tt
-  picks_found true (Some y) e next = let it_is = found s.cells good.tidy y e in (it_is.lives, ap is_some it_is.asked)
+  picks_found true (Some y) e next = let it_is = found s.cells good.no_duplicates y e in (it_is.lives, ap is_some it_is.asked)
   picks_found false y e None = tt
   picks_found false y e (Some time) = tt
 
@@ -286,8 +286,8 @@ module _ (p : Image) (t : Typing) (wired : IsWired p) (s : State) (w : WellTyped
   timer_found None after f = f
   timer_found (Some x) after f = grind (arith, nat_tests)
 
-  pub turning_found : (outside : Environment) (heard : Heard) → named s.cells heard.name ≡ None → IsFound (turning outside heard s)
-  turning_found outside heard free = grind (arith, nat_tests, timer_found, event_found outside heard.name, polls_found, picks_found)
+  pub turning_found : (outside : Environment) (observed : Observed) → named s.cells observed.name ≡ None → IsFound (turning outside observed s)
+  turning_found outside observed free = grind (arith, nat_tests, timer_found, event_found outside observed.name, polls_found, picks_found)
 
-  pub turn_kept : (outside : Environment) (heard : Heard) (u : State) → named s.cells heard.name ≡ None → turn p outside heard s ≡ Goes u → IsFit p u
-  turn_kept outside heard u free e = turned_kept (turning outside heard s) (turning_found outside heard free) u e
+  pub turn_kept : (outside : Environment) (observed : Observed) (u : State) → named s.cells observed.name ≡ None → turn p outside observed s ≡ Goes u → IsFit p u
+  turn_kept outside observed u free e = turned_kept (turning outside observed s) (turning_found outside observed free) u e

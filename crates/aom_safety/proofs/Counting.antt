@@ -9,7 +9,7 @@ use Rattle.aom_safety.proofs.Resting.{move_rest, IsEnd, Takes}
 use Rattle.aom_safety.specs.Counting.{DispatchesAreCounted, StepsAreCounted, ends_object, in_range, restarts, starts, steps_of, taken}
 use Rattle.aom_semantics.specs.Moves.{counted, dispatch_ends, step}
 use Rattle.aom_semantics.specs.State.{Choice, Dispatch, Goes, Counters, State, raised}
-use Rattle.aom_semantics.specs.World.{Heard, Environment, Reaches, Turning, begins, boot_state, moves, turn, turned, turning, turns}
+use Rattle.aom_semantics.specs.World.{Observed, Environment, Reaches, Turning, begins, boot_state, moves, turn, turned, turning, turns}
 use Rattle.aom_transcript.specs.declared.line.Line.{Line}
 
 -- the counts after a move, by those before it: where the dispatch of an object ends steps are counted anew, and it counts
@@ -41,16 +41,16 @@ moves_count : (p : Image) (c : Choice) (s u : State) → s.rest.steps ≡ in_ran
 moves_count p c s u within e = move_steps p c s u e ∙ ap (λ n. cond (restarts p s.tasks) 0 n) (grind arith)
 
 -- a turn counts anew where it dispatches an object
-turn_count : (p : Image) (outside : Environment) (heard : Heard) (s u : State) → turn p outside heard s ≡ Goes u →
-    u.rest.steps ≡ cond (starts (turning outside heard s)) 0 s.rest.steps
-turn_count p outside heard s u e = go (turning outside heard s) e
+turn_count : (p : Image) (outside : Environment) (observed : Observed) (s u : State) → turn p outside observed s ≡ Goes u →
+    u.rest.steps ≡ cond (starts (turning outside observed s)) 0 s.rest.steps
+turn_count p outside observed s u e = go (turning outside observed s) e
   where
     go : (k : Turning) → turned p s k ≡ Goes u → u.rest.steps ≡ cond (starts k) 0 s.rest.steps
     go x e = grind arith
 
 -- and ends no dispatch
-turn_dispatches : (p : Image) (outside : Environment) (heard : Heard) (s u : State) → turn p outside heard s ≡ Goes u → u.rest.dispatches ≡ s.rest.dispatches
-turn_dispatches p outside heard s u e = go (turning outside heard s) e
+turn_dispatches : (p : Image) (outside : Environment) (observed : Observed) (s u : State) → turn p outside observed s ≡ Goes u → u.rest.dispatches ≡ s.rest.dispatches
+turn_dispatches p outside observed s u e = go (turning outside observed s) e
   where
     go : (k : Turning) → turned p s k ≡ Goes u → u.rest.dispatches ≡ s.rest.dispatches
     go x e = grind arith
@@ -62,8 +62,8 @@ runs_count : (p : Image) (outside : Environment) {lines : List Line} {s : State}
     s.rest.steps ≡ in_range (taken reached)
 runs_count p outside begins = refl
 runs_count p outside (moves {s = s} {u = u} c reached busy opened goes) = grind (arith, nat_tests, runs_count p outside reached, moves_count p c s u, anew)
-runs_count p outside (turns {s = s} {u = u} heard reached between well goes) =
-    grind (arith, nat_tests, turn_count p outside heard s u goes, runs_count p outside reached, anew)
+runs_count p outside (turns {s = s} {u = u} observed reached between well goes) =
+    grind (arith, nat_tests, turn_count p outside observed s u goes, runs_count p outside reached, anew)
 
 pub steps_are_counted : StepsAreCounted
 steps_are_counted = record { boot = λ p. refl; moves = moves_count; turns = turn_count; runs = λ p outside lines s reached. runs_count p outside reached }

@@ -4,19 +4,19 @@ use Rattle.aom_safety.proofs.Turning.{turn_goes_on}
 use Rattle.std.proofs.Common.{arith, [], List, append-nil, append_assoc, inl, inr, length, refl, subst, sym, ℤ, ◌∙◌, ◌∷◌, ◌≡◌, ◌≢◌}
 use Rattle.std.specs.Prelude.{◌++◌, ◌⊎◌}
 use Rattle.aom_image.specs.Image.{Image}
-use Rattle.aom_rules.specs.Typing.{IsTyped, Typing}
+use Rattle.aom_typing_rules.specs.Typing.{IsTyped, Typing}
 use Rattle.aom_safety.proofs.Booting.{boot_keeps}
 use Rattle.aom_safety.proofs.Caught.{arrives as arrives_so, begins as begins_so, deals as deals_so, ends as ends_so, splits}
 use Rattle.aom_safety.proofs.Clearing.{works_kept}
 use Rattle.aom_safety.proofs.Steps.{step_keeps}
 use Rattle.aom_safety.proofs.ClientsKeep.{clients_keep}
-use Rattle.aom_safety.specs.Kept.{IsKept}
+use Rattle.aom_safety.specs.Kept.{StateInvariant}
 use Rattle.aom_safety.specs.Laws.{IsWired}
 use Rattle.aom_safety.specs.Leaves.{HasArrived, IsLeaving, IsOver, LeavesArrive, LeavesMove, StillLeaves, Unwinds, deals, leaves, works}
 use Rattle.aom_semantics.specs.Moves.{IsOpen, step}
 use Rattle.aom_semantics.specs.State.{Closing, A_mark, Choice, Destroy, Goes, Item, Run, State, Task, Unwind}
-use Rattle.aom_safety.specs.WellTyped.{Keeps, WellTyped}
-use Rattle.aom_semantics.specs.World.{IsBetween, IsBusy, Reaches, begins, moves, turn, turns, Environment, Heard, HearsWell}
+use Rattle.aom_safety.specs.WellTyped.{PreservesTyping, WellTyped}
+use Rattle.aom_semantics.specs.World.{IsBetween, IsBusy, Reaches, begins, moves, turn, turns, Environment, Observed, ObservesWell}
 use Rattle.aom_transcript.specs.declared.line.Line.{Line}
 
 pub leaves_move : LeavesMove
@@ -30,17 +30,17 @@ leaves_move = record {
 
 -- well typed, and what clients are at is kept
 abbrev pub WellKept : Image → Typing → State → Type 0
-WellKept p t s = WellTyped p t s × IsKept p s
+WellKept p t s = WellTyped p t s × StateInvariant p s
 
 module _ (p : Image) (t : Typing) (outside : Environment) (wired : IsWired p) (typed : IsTyped p t) where
   pub well_on : (from : State) → WellKept p t from → (lines : List Line) (s : State) → Reaches p outside from lines s → WellKept p t s
   well_on from w _ _ begins = w
   well_on from w _ _ (moves {lines = lines} {s = s} {u = u} c before busy choice e) =
       let b = well_on from w lines s before in
-      (subst (λ o. Keeps p t o) e (step_keeps p t wired typed c s b.0 choice.name), clients_keep.moves p t wired typed c s u b.0 choice.name b.1 e)
-  well_on from w _ _ (turns {lines = lines} {s = s} {u = u} heard before between well e) =
+      (subst (λ o. PreservesTyping p t o) e (step_keeps p t wired typed c s b.0 choice.name), clients_keep.moves p t wired typed c s u b.0 choice.name b.1 e)
+  well_on from w _ _ (turns {lines = lines} {s = s} {u = u} observed before between well e) =
       let b = well_on from w lines s before in
-      (grind (arith, nat_tests, turn_goes_on), clients_keep.turns p t outside wired typed heard s u b.0 between well b.1 e)
+      (grind (arith, nat_tests, turn_goes_on), clients_keep.turns p t outside wired typed observed s u b.0 between well b.1 e)
 
   module _ (from : State) (well : WellKept p t from) (code : ℤ) (below : List Task) (entries items : List Item) where
     abbrev Course : State → Type 0
@@ -91,16 +91,16 @@ module _ (p : Image) (t : Typing) (outside : Environment) (wired : IsWired p) (t
     moved_on lines s u c w busy choice e (inr h) =
         inr (record { last = h.last; course = h.course; choice = h.choice; after = h.after; move = h.move; arrives = h.arrives; lines = _; reaches = moves c h.reaches busy choice e })
 
-    turned : (heard : Heard) (s u : State) → IsBetween s → HearsWell p outside heard s → turn p outside heard s ≡ Goes u → Course s → Course u
-    turned heard s u between hears e (inl h) = absurd (subst (λ ts. IsOver p (length s.items) code below ts) between.idle h.leaving.over)
-    turned heard s u between hears e (inr h) =
-        inr (record { last = h.last; course = h.course; choice = h.choice; after = h.after; move = h.move; arrives = h.arrives; lines = _; reaches = turns heard h.reaches between hears e })
+    turned : (observed : Observed) (s u : State) → IsBetween s → ObservesWell p outside observed s → turn p outside observed s ≡ Goes u → Course s → Course u
+    turned observed s u between observes e (inl h) = absurd (subst (λ ts. IsOver p (length s.items) code below ts) between.idle h.leaving.over)
+    turned observed s u between observes e (inr h) =
+        inr (record { last = h.last; course = h.course; choice = h.choice; after = h.after; move = h.move; arrives = h.arrives; lines = _; reaches = turns observed h.reaches between observes e })
 
     course_of : IsLeaving p code below entries items from → (lines : List Line) (s : State) → Reaches p outside from lines s → Course s
     course_of l _ _ begins = inl (record { dealt = []; rest = entries; all = refl; course = leaves; leaving = l })
     course_of l _ _ (moves {lines = lines} {s = s} {u = u} c before busy choice e) =
         moved_on lines s u c (well_on from well lines s before).0 busy choice e (course_of l lines s before)
-    course_of l _ _ (turns {lines = lines} {s = s} {u = u} heard before between hears e) = turned heard s u between hears e (course_of l lines s before)
+    course_of l _ _ (turns {lines = lines} {s = s} {u = u} observed before between observes e) = turned observed s u between observes e (course_of l lines s before)
 
 pub leaves_arrive : LeavesArrive
 leaves_arrive p t outside wired typed before s reached code below at =

@@ -9,29 +9,29 @@ use Rattle.aom_instructions.specs.declared.instr.Instr.{Instr}
 use Rattle.aom_instructions.specs.declared.instr.Instr.TheVariants.{New}
 use Rattle.aom_image.specs.declared.method.Thing.{Thing}
 use Rattle.aom_image.specs.declared.method.Thing.TheVariants.{Object as An_object_of}
-use Rattle.aom_shape.specs.Kinds.{field, filled, set_register}
-use Rattle.aom_rules.specs.Objects.{new_age}
-use Rattle.aom_shape.specs.Order.{Weaker, alike, maybe_null}
-use Rattle.aom_shape.specs.Shape.{Shape}
+use Rattle.aom_abstract_state.specs.Kinds.{field, filled, set_register}
+use Rattle.aom_typing_rules.specs.Objects.{new_age}
+use Rattle.aom_abstract_state.specs.Order.{Weaker, alike, maybe_null}
+use Rattle.aom_abstract_state.specs.AbstractState.{AbstractState}
 use Rattle.aom_roles.specs.Things.{field_thing, holder_of}
-use Rattle.aom_rules.specs.Typing.{Typing, Leads}
-use Rattle.aom_shape.specs.declared.kind.Age.{Age}
-use Rattle.aom_shape.specs.declared.kind.Filling.TheVariants.{Full, Perhaps}
-use Rattle.aom_shape.specs.declared.kind.Kind.{Kind}
-use Rattle.aom_shape.specs.declared.kind.Kind.TheVariants.{Maybe, Null}
+use Rattle.aom_typing_rules.specs.Typing.{Typing, Leads}
+use Rattle.aom_abstract_state.specs.declared.kind.InitState.{InitState}
+use Rattle.aom_abstract_state.specs.declared.kind.FieldState.TheVariants.{Full, Perhaps}
+use Rattle.aom_abstract_state.specs.declared.kind.Kind.{Kind}
+use Rattle.aom_abstract_state.specs.declared.kind.Kind.TheVariants.{Maybe, Null}
 use Rattle.aom_safety.proofs.Claimed.{Outside, claim-set_register, claim_frame, claim_rel, claim_unnamed, fits_age, fits_weaker, outside_differs}
 use Rattle.aom_safety.proofs.Straight.{frames_reworded, At, Fitted, Law, fits_unowning, fitted, free_register, relabel, settle, top, well, words_set}
 use Rattle.aom_safety.specs.Claims.{Ending, Dispatching, Dying, Layer, Mark, Method, Unwinding, claim}
-use Rattle.aom_safety.specs.Claims.{declared, declared_field, home_claim, own_field, tasks_of}
+use Rattle.aom_safety.specs.Claims.{declared, declared_field, receiver_claim, own_field, tasks_of}
 use Rattle.aom_semantics.specs.Effects.{applied, makes_unless, sets, Made}
 use Rattle.aom_semantics.specs.Objects.{no_words}
 use Rattle.aom_semantics.specs.Places.{Elsewhere, Session, Queued, service_of, unserved, Service, Cell, Field, Object, Place}
-use Rattle.aom_semantics.specs.Places.{Register, Sight, held, named, requested, same_place, seen, with_new}
-use Rattle.aom_semantics.specs.State.{AtRoot, Choice, Frame, Home, Inside, State, Static, next, set_word, thing_holder, word}
-use Rattle.aom_safety.specs.WellTyped.{Back, Fits, HasAge, IsHoused, Returns, Stack, WellTyped, WordFits}
-use Rattle.aom_safety.proofs.Seats.{NoFieldHere, first_kept, sits_kept}
-use Rattle.aom_safety.specs.Requests.{AllSuit, Suits, Unworked, states_claim, thing_kind, works_at}
-use Rattle.aom_safety.proofs.Suiting.{suits_new, unworked_rests}
+use Rattle.aom_semantics.specs.Places.{Register, CellView, held, named, requested, same_place, seen, with_new}
+use Rattle.aom_semantics.specs.State.{AtRoot, Choice, Frame, Receiver, Inside, State, Static, next, set_word, thing_holder, word}
+use Rattle.aom_safety.specs.WellTyped.{Back, Fits, HasAge, ReceiverIsHeld, Returns, Stack, WellTyped, WordFits}
+use Rattle.aom_safety.proofs.OwnedObjects.{NoFieldHere, first_kept, sits_kept}
+use Rattle.aom_safety.specs.Requests.{AllConformTo, ConformsTo, Unworked, states_claim, thing_kind, works_at}
+use Rattle.aom_safety.proofs.ConformingTo.{conforms_to_new, unworked_rests}
 use Rattle.aom_semantics.specs.Servers.{has_session, has_message, session_thing, message_thing}
 use Rattle.aom_safety.proofs.Services.{service_unnamed, attended_at, sits_lives}
 use Rattle.aom_safety.proofs.RolesLemmas.{stands_itself}
@@ -76,20 +76,20 @@ lives_new : (cs : List Cell) (n : ℕ) (x : Thing) (ws : List ℤ) (owner : Plac
     named (with_new n x ws owner cs) o.name ≡ Some o
 lives_new cs n x ws owner o e h = search (arith, nat_tests, ne_eqb n o.name)
 
-holds_new : (p : Image) (cs : List Cell) (n : ℕ) (x : Thing) (ws : List ℤ) (owner : Place) (ls : List Layer) (home : Home) → named cs n ≡ None → Outside owner
-    ls → ((o : Object) (from : Place) → home ≡ Inside o from → NoFieldHere owner from) → IsHoused p cs ls home → IsHoused p (with_new n x ws owner cs) ls home
+holds_new : (p : Image) (cs : List Cell) (n : ℕ) (x : Thing) (ws : List ℤ) (owner : Place) (ls : List Layer) (receiver : Receiver) → named cs n ≡ None → Outside owner
+    ls → ((o : Object) (from : Place) → receiver ≡ Inside o from → NoFieldHere owner from) → ReceiverIsHeld p cs ls receiver → ReceiverIsHeld p (with_new n x ws owner cs) ls receiver
 holds_new p cs n x ws owner ls y e out nf h = grind (arith, nat_tests, outside_differs owner, lives_new cs n x ws owner)
 
 stack_new : (p : Image) (t : Typing) (cs : List Cell) (n : ℕ) (x : Thing) (ws : List ℤ) (f i : ℕ) (ls : List Layer) (back : Back) →
     named cs n ≡ None → length (tasks_of ls) ≤ f → Stack p t cs back ls → Stack p t (with_new n x ws (Register f i) cs) back ls
 stack_new p t cs n x ws f i [] back e out s = s
 stack_new p t cs n x ws f i (Method fr sh ∷ ls) back e out s =
-    (s.0, s.1, holds_new p cs n x ws (Register f i) ls fr.home e (omega arith) (λ o from e. tt) s.2, s.3, stack_new p t cs n x ws f i ls _ e (omega arith) s.4)
+    (s.0, s.1, holds_new p cs n x ws (Register f i) ls fr.receiver e (omega arith) (λ o from e. tt) s.2, s.3, stack_new p t cs n x ws f i ls _ e (omega arith) s.4)
 stack_new p t cs n x ws f i (Mark gv ∷ ls) back e out s = (s.0, stack_new p t cs n x ws f i ls _ e (omega arith) s.1)
-stack_new p t cs n x ws f i (Dispatching d seats ∷ ls) back e out s = (
+stack_new p t cs n x ws f i (Dispatching d owned_chain ∷ ls) back e out s = (
   s.0,
   s.1,
-  sits_kept cs cs' q q seats (λ r o other other' there lives. (grind (arith, nat_tests), lives_new cs n x ws q o e lives)) tt tt s.2,
+  sits_kept cs cs' q q owned_chain (λ r o other other' there lives. (grind (arith, nat_tests), lives_new cs n x ws q o e lives)) tt tt s.2,
   grind (arith, nat_tests, first_kept, ne_eqb),
   grind (arith, nat_tests, attended_at, service_new, sits_lives),
 )
@@ -112,28 +112,28 @@ stack_new p t cs n x ws f i (Dying o ∷ ls) back e out s =
 
 -- no layer works on a cell that is not there
 module _ (p : Image) (cs : List Cell) (o : Object) where
-  unworked_home : (ls : List Layer) (home : Home) → IsHoused p cs ls home → named cs o.name ≡ None → works_at o.name home ≡ false
-  unworked_home ls x h e = grind (arith, nat_tests, ne_eqb)
+  unworked_receiver : (ls : List Layer) (receiver : Receiver) → ReceiverIsHeld p cs ls receiver → named cs o.name ≡ None → works_at o.name receiver ≡ false
+  unworked_receiver ls x h e = grind (arith, nat_tests, ne_eqb)
 
   unworked_unnamed : (t : Typing) (ls : List Layer) (back : Back) → Stack p t cs back ls → named cs o.name ≡ None → Unworked o.name ls
   unworked_unnamed t [] back s e = tt
-  unworked_unnamed t (Method fr sh ∷ ls) back s e = (unworked_home ls fr.home s.2 e, unworked_unnamed t ls _ s.4 e)
+  unworked_unnamed t (Method fr sh ∷ ls) back s e = (unworked_receiver ls fr.receiver s.2 e, unworked_unnamed t ls _ s.4 e)
   unworked_unnamed t (Dying x ∷ ls) back s e = (grind (arith, nat_tests, ne_eqb x.name o.name), unworked_unnamed t ls _ s.2 e)
   unworked_unnamed t (Ending x left ∷ ls) back s e = unworked_unnamed t ls _ s.3 e
-  unworked_unnamed t (Dispatching d seats ∷ ls) back s e = subst (λ l. Unworked o.name l) (sym s.1) tt
+  unworked_unnamed t (Dispatching d owned_chain ∷ ls) back s e = subst (λ l. Unworked o.name l) (sym s.1) tt
   unworked_unnamed t (_ ∷ ls) back s e = unworked_unnamed t ls _ s.1 e
 
 -- a new cell in a register of the top method
-pub create : (p : Image) (t : Typing) (cs : List Cell) (fr : Frame) (sh : Shape) (ls : List Layer) (n : ℕ) (x : Thing) (ws : List ℤ) (a : ℕ) (k : Kind) →
+pub create : (p : Image) (t : Typing) (cs : List Cell) (fr : Frame) (sh : AbstractState) (ls : List Layer) (n : ℕ) (x : Thing) (ws : List ℤ) (a : ℕ) (k : Kind) →
     Fitted p t cs fr sh ls → named cs n ≡ None → held cs (top ls a) ≡ None →
-    ((h : Sight) → ((f : ℕ) → h.holds (Field n f) ≡ None) → h.requests n ≡ None → Fits p h (Some (record { name = n; thing = x })) k) → WordFits None k →
+    ((h : CellView) → ((f : ℕ) → h.holds (Field n f) ≡ None) → h.requests n ≡ None → Fits p h (Some (record { name = n; thing = x })) k) → WordFits None k →
     Fitted p t (with_new n x ws (top ls a) cs) (next (set_word fr a None)) (set_register sh a k) ls
 create p t cs fr sh ls n x ws a k g e free new word = record {
   fits = fits;
-  suits = suits;
-  tidy = (free, e, g.tidy);
+  conforms_to = conforms_to;
+  no_duplicates = (free, e, g.no_duplicates);
   frames = frames_reworded g.frames (words_set fr.words sh a None k g.frames.words word);
-  housed = holds_new p cs n x ws (top ls a) ls fr.home e (omega arith) (λ o from e. tt) g.housed;
+  receiver_held = holds_new p cs n x ws (top ls a) ls fr.receiver e (omega arith) (λ o from e. tt) g.receiver_held;
   apart = g.apart;
   stack = stack_new p t cs n x ws (length (tasks_of ls)) a ls _ e (omega arith) g.stack;
 }
@@ -142,13 +142,13 @@ create p t cs fr sh ls n x ws a k g e free new word = record {
     cs' = with_new n x ws (top ls a) cs
 
     back : Back
-    back = Returns fr.method fr.home
+    back = Returns fr.method fr.receiver
 
     no_field : (f : ℕ) → held cs (Field n f) ≡ None
     no_field f = fits_unowning p (seen cs) _ Null refl (rw (unclaimed ∙ ap (λ o. declared_field p o f) e) at (g.fits (Field n f)))
       where
-        own : (h : Home) → IsHoused p cs ls h →
-            home_claim p (holder_of p fr.method) h sh n f (claim p (declared p cs) ls (Field n f)) ≡ claim p (declared p cs) ls (Field n f)
+        own : (h : Receiver) → ReceiverIsHeld p cs ls h →
+            receiver_claim p (holder_of p fr.method) h sh n f (claim p (declared p cs) ls (Field n f)) ≡ claim p (declared p cs) ls (Field n f)
         own Static h = refl
         own AtRoot h = refl
         own (Inside o from) h = ap (λ b. cond b (own_field (field_thing p (holder_of p fr.method) f) (field sh f) (claim p (declared p cs) ls (Field n f)))
@@ -156,7 +156,7 @@ create p t cs fr sh ls n x ws a k g e free new word = record {
             (ne_eqb o.name n (λ same. let l = h.lives in let e' : Some o ≡ None = sym l ∙ ap (λ x. named cs x) same ∙ e in cc))
 
         unclaimed : claim p (declared p cs) (Method fr sh ∷ ls) (Field n f) ≡ declared p cs (Field n f)
-        unclaimed = own fr.home g.housed ∙ claim_unnamed p t cs (declared p cs) ls back n f g.stack e
+        unclaimed = own fr.receiver g.receiver_held ∙ claim_unnamed p t cs (declared p cs) ls back n f g.stack e
 
     no_request : requested cs' n ≡ None
     no_request = ap (λ b. cond b None (requested cs n)) (eq-eqb n n refl)
@@ -172,18 +172,18 @@ create p t cs fr sh ls n x ws a k g e free new word = record {
             (fits_age p (seen cs) (seen cs') (held cs r) _ (λ y e' fresh age. (age.0, grind arith)) (g.fits r))
 
     -- no layer works on what was not there
-    suits : AllSuit p cs' (Method (next (set_word fr a None)) (set_register sh a k) ∷ ls)
-    suits o lives = go (n == o.name) refl lives
+    conforms_to : AllConformTo p cs' (Method (next (set_word fr a None)) (set_register sh a k) ∷ ls)
+    conforms_to o lives = go (n == o.name) refl lives
       where
         go : (b : Bool) → (n == o.name) ≡ b → cond b (Some (record { name = n; thing = x })) (named cs o.name) ≡ Some o →
-            Suits (thing_kind p o.thing) (states_claim p o (Method fr sh ∷ ls)) (cond b None (requested cs o.name))
+            ConformsTo (thing_kind p o.thing) (states_claim p o (Method fr sh ∷ ls)) (cond b None (requested cs o.name))
         go true same here =
             let unnamed : named cs o.name ≡ None = ap (λ m. named cs m) (sym (eqb-true n o.name same)) ∙ e in
-            rw (unworked_rests p o (Method fr sh ∷ ls) (unworked_home p cs o ls fr.home g.housed unnamed, unworked_unnamed p cs o t ls back g.stack unnamed))
-            (suits_new (thing_kind p o.thing))
-        go false other here = g.suits o here
+            rw (unworked_rests p o (Method fr sh ∷ ls) (unworked_receiver p cs o ls fr.receiver g.receiver_held unnamed, unworked_unnamed p cs o t ls back g.stack unnamed))
+            (conforms_to_new (thing_kind p o.thing))
+        go false other here = g.conforms_to o here
 
-module _ (p : Image) (t : Typing) (c : Choice) (s : State) (fr : Frame) (sh : Shape) (ls : List Layer) (at_hand : At p t s fr sh ls) where
+module _ (p : Image) (t : Typing) (c : Choice) (s : State) (fr : Frame) (sh : AbstractState) (ls : List Layer) (has_task : At p t s fr sh ls) where
   d : Place → Kind
   d = declared p s.cells
 
@@ -191,24 +191,24 @@ module _ (p : Image) (t : Typing) (c : Choice) (s : State) (fr : Frame) (sh : Sh
   abbrev pub IsUnused : Type 0
   IsUnused = named s.cells c.name ≡ None
 
-  pub age_fits : (h : Sight) (a : Age) (o : Object) → ((f : ℕ) → h.holds (Field o.name f) ≡ None) → h.requests o.name ≡ None → HasAge h o a
+  pub age_fits : (h : CellView) (a : InitState) (o : Object) → ((f : ℕ) → h.holds (Field o.name f) ≡ None) → h.requests o.name ≡ None → HasAge h o a
   age_fits h x o n u = grind arith
 
   -- a new cell comes to a register that owned nothing
-  pub made_well : (a x : ℕ) (k : Kind) → held s.cells (top ls a) ≡ None → IsUnused → ((h : Sight) → HasAge h (record { name = c.name; thing = An_object_of x })
+  pub made_well : (a x : ℕ) (k : Kind) → held s.cells (top ls a) ≡ None → IsUnused → ((h : CellView) → HasAge h (record { name = c.name; thing = An_object_of x })
       (new_age p x) → Fits p h (Some (record { name = c.name; thing = An_object_of x })) k) → WordFits None k →
       Leads t fr.method (suc fr.place) (set_register sh a k) → WellTyped p t (applied p fr (tasks_of ls) s (sets fr a None (Made c.name x a)))
   made_well a x k free unused owns word leads =
-      well p t c s fr sh ls at_hand _ fr' (set_register sh a k) refl at_hand.items at_hand.undos (settle p t _ fr' (set_register sh a k) ls makes leads)
+      well p t c s fr sh ls has_task _ fr' (set_register sh a k) refl has_task.items has_task.undo_operations (settle p t _ fr' (set_register sh a k) ls makes leads)
     where
       fr' : Frame
       fr' = next (set_word fr a None)
 
       makes : Fitted p t (with_new c.name (An_object_of x) (no_words p x) (top ls a) s.cells) fr' (set_register sh a k) ls
-      makes = create p t s.cells fr sh ls c.name (An_object_of x) (no_words p x) a k (fitted p t s.cells fr sh ls at_hand.good) unused free
+      makes = create p t s.cells fr sh ls c.name (An_object_of x) (no_words p x) a k (fitted p t s.cells fr sh ls has_task.good) unused free
           (λ h nf u. owns h (age_fits h (new_age p x) (record { name = c.name; thing = An_object_of x }) nf u)) word
 
-  pub law_new : (a x : ℕ) → IsUnused → Law p t c s fr sh ls at_hand (New a x)
+  pub law_new : (a x : ℕ) → IsUnused → Law p t c s fr sh ls has_task (New a x)
   law_new a x unused n leads = ((ap is_none free, tt), go c.refused)
     where
       k : Kind
@@ -218,18 +218,18 @@ module _ (p : Image) (t : Typing) (c : Choice) (s : State) (fr : Frame) (sh : Sh
       fr' = next (set_word fr a None)
 
       free : held s.cells (top ls a) ≡ None
-      free = free_register p t c s fr sh ls at_hand a n.0
+      free = free_register p t c s fr sh ls has_task a n.0
 
       refuses : Fitted p t s.cells fr' (set_register sh a k) ls
-      refuses = relabel p t s.cells fr fr' sh (set_register sh a k) ls (top ls a) k (fitted p t s.cells fr sh ls at_hand.good) refl refl refl refl
-          (rw free tt) (λ r. claim-set_register p (declared p s.cells) fr sh ls a k r) (words_set fr.words sh a None k at_hand.good.stack.1.words refl)
+      refuses = relabel p t s.cells fr fr' sh (set_register sh a k) ls (top ls a) k (fitted p t s.cells fr sh ls has_task.good) refl refl refl refl
+          (rw free tt) (λ r. claim-set_register p (declared p s.cells) fr sh ls a k r) (words_set fr.words sh a None k has_task.good.stack.1.words refl)
 
       go : (b : Bool) → WellTyped p t (applied p fr (tasks_of ls) s (sets fr a None (makes_unless b c.name x a)))
-      go true = well p t c s fr sh ls at_hand _ fr' (set_register sh a k) refl at_hand.items at_hand.undos
+      go true = well p t c s fr sh ls has_task _ fr' (set_register sh a k) refl has_task.items has_task.undo_operations
           (settle p t _ fr' (set_register sh a k) ls refuses leads.0)
       go false = made_well a x k free unused (λ h age. (stands_itself p (An_object_of x), age)) refl leads.0
 
   -- the instruction of this file by its law
-  abbrev pub of_creation : IsUnused → (i : Instr) → Option (Law p t c s fr sh ls at_hand i)
+  abbrev pub of_creation : IsUnused → (i : Instr) → Option (Law p t c s fr sh ls has_task i)
   of_creation unused (New a x) = Some (law_new a x unused)
   of_creation unused _ = None

@@ -8,33 +8,33 @@ use Rattle.aom_image.specs.Views.{method_class}
 use Rattle.aom_image.specs.declared.method.Role.TheVariants.{Undo}
 use Rattle.aom_image.specs.declared.method.Thing.TheVariants.{Object as An_object_of}
 use Rattle.aom_roles.specs.Roles.{is_service}
-use Rattle.aom_shape.specs.Kinds.{entry_kind, filled, register}
-use Rattle.aom_shape.specs.Order.{SaysNoMore}
-use Rattle.aom_shape.specs.Shape.{Shape}
+use Rattle.aom_abstract_state.specs.Kinds.{entry_kind, filled, register}
+use Rattle.aom_abstract_state.specs.Order.{IsImpliedBy}
+use Rattle.aom_abstract_state.specs.AbstractState.{AbstractState}
 use Rattle.aom_roles.specs.Tables.{at}
 use Rattle.aom_roles.specs.Things.{Nobody, field_thing, holder_by, holder_of}
-use Rattle.aom_rules.specs.Typing.{IsTyped, Typing}
-use Rattle.aom_shape.specs.Arguments.{argument_kind, entry_shape}
-use Rattle.aom_shape.specs.declared.kind.Age.{Age}
-use Rattle.aom_shape.specs.declared.kind.CleanupEntry.{CleanupEntry}
-use Rattle.aom_shape.specs.declared.kind.CleanupEntry.TheVariants.{Object as Pushed_object, Operation as Pushed_operation}
-use Rattle.aom_shape.specs.declared.kind.Filling.TheVariants.{Perhaps}
-use Rattle.aom_shape.specs.declared.kind.Kind.{Kind}
-use Rattle.aom_shape.specs.declared.kind.Kind.TheVariants.{Null, Own, Unset, Word}
+use Rattle.aom_typing_rules.specs.Typing.{IsTyped, Typing}
+use Rattle.aom_abstract_state.specs.Arguments.{argument_kind, entry_shape}
+use Rattle.aom_abstract_state.specs.declared.kind.InitState.{InitState}
+use Rattle.aom_abstract_state.specs.declared.kind.CleanupEntry.{CleanupEntry}
+use Rattle.aom_abstract_state.specs.declared.kind.CleanupEntry.TheVariants.{Object as Pushed_object, Operation as Pushed_operation}
+use Rattle.aom_abstract_state.specs.declared.kind.FieldState.TheVariants.{Perhaps}
+use Rattle.aom_abstract_state.specs.declared.kind.Kind.{Kind}
+use Rattle.aom_abstract_state.specs.declared.kind.Kind.TheVariants.{Null, Own, Unset, Word}
 use Rattle.aom_safety.proofs.Claimed.{claim_entry_above, claim_register_above, fits_weaker, stack_moved, word_fits_weaker}
 use Rattle.aom_safety.proofs.Destroying.{no_going, untouched, goes_well}
 use Rattle.aom_safety.proofs.Items.{length_forms}
 use Rattle.aom_safety.proofs.SemanticsLemmas.{same_place-true, same_place_refl}
 use Rattle.aom_safety.proofs.Straight.{fits_unowning}
-use Rattle.aom_safety.proofs.Housing.{counts_same, houses_same}
+use Rattle.aom_safety.proofs.ReceiverHolding.{counts_same, receiver_conforms_same}
 use Rattle.aom_safety.specs.Claims.{Layer, Method, claim, declared, entry_form, forms, items_of, objects, tasks_of}
-use Rattle.aom_semantics.specs.Cleanup.{dealt_with, destroyed, operation_frame, top_is_whole, top_place, tops_entry}
+use Rattle.aom_semantics.specs.Cleanup.{dealt_with, destroyed, operation_frame, top_is_whole, top_place, top_matches_entry}
 use Rattle.aom_semantics.specs.Effects.{applied, deals as deals_effect}
 use Rattle.aom_safety.specs.Laws.{IsWired}
-use Rattle.aom_semantics.specs.Places.{In_service, Elsewhere, Entry, Going, Object, Place, Register, Tidy, changed, held, moved, seen}
+use Rattle.aom_semantics.specs.Places.{In_service, Elsewhere, Entry, Going, Object, Place, Register, NoDuplicates, changed, held, moved, seen}
 use Rattle.aom_semantics.specs.State.{An_object, An_operation, Frame, Item, Run, State, Static, Task, thing_holder, word}
 use Rattle.aom_safety.specs.WellTyped.{IsServed, AllUndo, Fits, Gone, IsUndo, Returns, Stack, WellTyped, WordFits}
-use Rattle.aom_safety.specs.Requests.{AllSuit}
+use Rattle.aom_safety.specs.Requests.{AllConformTo}
 use Rattle.aom_safety.proofs.Attending.{plain_claim}
 
 -- without the last entry the layers claim nothing of its place, and else the same
@@ -46,10 +46,10 @@ pub record Dealing (p : Image) (t : Typing) (s : State) (e : CleanupEntry) (befo
   pub fits : (r : Place) → Fits p (seen s.cells) (held s.cells r) (claim p (declared p s.cells) before r)
   pub claims : (r : Place) → claim p (declared p s.cells) before r ≡ changed (claim p (declared p s.cells) below) (Entry (length (items_of below))) (entry_kind e) r
   pub deep : length (tasks_of before) ≡ length (tasks_of below)
-  pub suits : AllSuit p s.cells below
-  pub tidy : Tidy s.cells
+  pub conforms_to : AllConformTo p s.cells below
+  pub no_duplicates : NoDuplicates s.cells
   pub items : forms s.items ≡ entry_form e ∷ items_of below
-  pub undos : AllUndo p s.items
+  pub undo_operations : AllUndo p s.items
   -- below a destruction, and below an operation
   pub under_object : Stack p t s.cells Gone below
   pub unserved : IsServed below → ⊥
@@ -71,16 +71,16 @@ module _ (p : Image) (t : Typing) (wired : IsWired p) (typed : IsTyped p t) (s :
   -- the object of an entry goes
   object_goes : (o : Object) (items : List Item) → forms items ≡ items_of below → AllUndo p items → held s.cells (Entry (length (items_of below))) ≡ Some o →
       WellTyped p t (destroyed p (Some o) items (tasks_of below) s)
-  object_goes o items same undos there =
+  object_goes o items same undo_operations there =
       let g = Going (length (tasks_of below)) in
       let high : length items ≡ length (items_of below) = sym (length_forms items) ∙ ap length same in
       let deep : length (tasks_of before) ≤ length (tasks_of below) = omega (arith, d.deep) in
       let free = no_going p t s.cells o q before below d.fits there deep less in
       let k : ℕ → Kind = λ f. filled (field_thing p (thing_holder o.thing) f) Perhaps in
-      goes_well p t s.cells o q before below d.fits there deep less wired typed d.tidy
+      goes_well p t s.cells o q before below d.fits there deep less wired typed d.no_duplicates
       (stack_moved p t s.cells q g below Gone free (omega arith) (omega arith) d.under_object)
-      (untouched p t s.cells q o d.tidy there k below Gone (omega arith) d.under_object)
-      d.suits (destroyed p (Some o) items (tasks_of below) s) (length items) high (ap (λ n. moved (Entry n) g s.cells) high) refl same undos
+      (untouched p t s.cells q o d.no_duplicates there k below Gone (omega arith) d.under_object)
+      d.conforms_to (destroyed p (Some o) items (tasks_of below) s) (length items) high (ap (λ n. moved (Entry n) g s.cells) high) refl same undo_operations
 
   module _ (m : ℕ) (w : ℤ) (undo : IsUndo p m) (operation : entry_kind e ≡ Null) where
     -- what is known as an operation begins: its word
@@ -91,7 +91,7 @@ module _ (p : Image) (t : Typing) (wired : IsWired p) (typed : IsTyped p t) (s :
     fits_below : (r : Place) → Fits p (seen s.cells) (held s.cells r) (claim p (declared p s.cells) below r)
     fits_below r = grind (arith, nat_tests, less r)
 
-    runs_fitting : (height : ℕ) (after : Shape) → SaysNoMore after (entry_shape p m) → (r : Place) →
+    runs_fitting : (height : ℕ) (after : AbstractState) → IsImpliedBy after (entry_shape p m) → (r : Place) →
         Fits p (seen s.cells) (held s.cells r) (claim p (declared p s.cells) (Method (operation_frame m w height) after ∷ below) r)
     runs_fitting height after says (Register f i) = go (length (tasks_of below) == f) refl
       where
@@ -109,7 +109,7 @@ module _ (p : Image) (t : Typing) (wired : IsWired p) (typed : IsTyped p t) (s :
 
     operation_runs : (items : List Item) → forms items ≡ items_of below →
         AllUndo p items → WellTyped p t (record s { tasks = Run (operation_frame m w (length items)) ∷ tasks_of below; items = items })
-    operation_runs items same undos =
+    operation_runs items same undo_operations =
         let leads = typed.entry m undo.there in
         let says = leads.2 in
         let fr = operation_frame m w (length items) in
@@ -117,13 +117,13 @@ module _ (p : Image) (t : Typing) (wired : IsWired p) (typed : IsTyped p t) (s :
           layers = Method fr leads.0 ∷ below;
           tasks = refl;
           items = same ∙ ap (λ es. objects es (items_of below)) (sym says.entries);
-          undos = undos;
+          undo_operations = undo_operations;
           good = record {
             stack = (
               leads.1,
               record {
                 words = λ i. word_fits_weaker (word fr i) (says.registers i) (subst (λ k. WordFits (word fr i) k) (sym (begins_with i)) (grind arith));
-                holder = houses_same p _ _ (sym holder);
+                holder = receiver_conforms_same p _ _ (sym holder);
                 view = counts_same p Static _ (sym holder);
                 height = sym (length_forms items) ∙ ap length same;
                 alone = λ e. tt;
@@ -134,14 +134,14 @@ module _ (p : Image) (t : Typing) (wired : IsWired p) (typed : IsTyped p t) (s :
               d.under_operation m undo,
             );
             fits = runs_fitting (length items) leads.0 says;
-            suits = d.suits;
-            tidy = d.tidy;
+            conforms_to = d.conforms_to;
+            no_duplicates = d.no_duplicates;
           };
         }
 
 -- the effect of `popdelete` is that
 pub dealing : (p : Image) (fr : Frame) (ts : List Task) (s : State) (items : List Item) (o : Option Object) → s.items ≡ items → held s.cells (top_place items)
-    ≡ o → tops_entry items ≡ true → top_is_whole s.cells items ≡ true → dealt_with p items (Run fr ∷ ts) s ≡ applied p fr ts s (deals_effect fr items o)
+    ≡ o → top_matches_entry items ≡ true → top_is_whole s.cells items ≡ true → dealt_with p items (Run fr ∷ ts) s ≡ applied p fr ts s (deals_effect fr items o)
 dealing p fr ts s (An_object ∷ items) (Some o) at e there whole = grind (arith, nat_tests, items)
 dealing p fr ts s (An_operation m w ∷ items) o at e there whole = grind (arith, nat_tests, items)
 dealing p fr ts s _ o at e there whole = cc
@@ -149,12 +149,12 @@ dealing p fr ts s _ o at e there whole = cc
 -- so it is there, and what follows is well typed
 pub deals : (p : Image) (t : Typing) → IsWired p → IsTyped p t → (s : State) (e : CleanupEntry) (before below : List Layer) → Dealing p t s e before below →
     (top_is_whole s.cells s.items ≡ true) × WellTyped p t (dealt_with p s.items (tasks_of below) s)
-deals p t wired typed s e before below d = go e s.items d d.items d.undos
+deals p t wired typed s e before below d = go e s.items d d.items d.undo_operations
   where
     Goal : List Item → Type 0
     Goal items = (top_is_whole s.cells items ≡ true) × WellTyped p t (dealt_with p items (tasks_of below) s)
 
-    whole : (o : Option Object) (c : ℕ) (a : Age) → Fits p (seen s.cells) o (Own (An_object_of c) a) → (x : Object) × (o ≡ Some x)
+    whole : (o : Option Object) (c : ℕ) (a : InitState) → Fits p (seen s.cells) o (Own (An_object_of c) a) → (x : Object) × (o ≡ Some x)
     whole x c a f = grind arith
 
     go : (e : CleanupEntry) (items : List Item) → Dealing p t s e before below → forms items ≡ entry_form e ∷ items_of below → AllUndo p items → Goal items

@@ -12,47 +12,47 @@ use Rattle.aom_image.specs.declared.method.Gives.TheVariants.{Nothing}
 use Rattle.aom_image.specs.declared.method.Role.TheVariants.{Destruct}
 use Rattle.aom_image.specs.declared.method.Thing.{Thing}
 use Rattle.aom_image.specs.declared.method.Thing.TheVariants.{Message, Object as An_object_of}
-use Rattle.aom_rules.specs.Calls.{is_destruct}
-use Rattle.aom_shape.specs.Kinds.{field, filled, may_be_destroyed, register, set_register}
-use Rattle.aom_shape.specs.Order.{SaysNoMore, Weaker, WeakerFilling, alike, alike_filling}
-use Rattle.aom_shape.specs.Shape.{Shape}
+use Rattle.aom_typing_rules.specs.Calls.{is_destruct}
+use Rattle.aom_abstract_state.specs.Kinds.{field, filled, may_be_destroyed, register, set_register}
+use Rattle.aom_abstract_state.specs.Order.{IsImpliedBy, Weaker, WeakerFilling, alike, alike_filling}
+use Rattle.aom_abstract_state.specs.AbstractState.{AbstractState}
 use Rattle.aom_roles.specs.Tables.{at}
 use Rattle.aom_roles.specs.Things.{Member, field_thing, holder_by, holder_of}
-use Rattle.aom_rules.specs.Typing.{IsTyped, Typing}
-use Rattle.aom_shape.specs.Arguments.{after_of, argument_kind, before_of, entry_fields, entry_shape}
-use Rattle.aom_shape.specs.declared.kind.Age.TheVariants.{Ready}
-use Rattle.aom_shape.specs.declared.kind.Filling.{Filling}
-use Rattle.aom_shape.specs.declared.kind.Filling.TheVariants.{Perhaps}
-use Rattle.aom_shape.specs.declared.kind.Kind.{Kind}
-use Rattle.aom_shape.specs.declared.kind.Kind.TheVariants.{Null, Own, Unset}
-use Rattle.aom_safety.proofs.Claimed.{no_seat_outside, Outside, claim-set_register, claim_frame, claim_going_above, claim_register_above, claim_unclaimed}
+use Rattle.aom_typing_rules.specs.Typing.{IsTyped, Typing}
+use Rattle.aom_abstract_state.specs.Arguments.{after_of, argument_kind, before_of, entry_fields, entry_shape}
+use Rattle.aom_abstract_state.specs.declared.kind.InitState.TheVariants.{Ready}
+use Rattle.aom_abstract_state.specs.declared.kind.FieldState.{FieldState}
+use Rattle.aom_abstract_state.specs.declared.kind.FieldState.TheVariants.{Perhaps}
+use Rattle.aom_abstract_state.specs.declared.kind.Kind.{Kind}
+use Rattle.aom_abstract_state.specs.declared.kind.Kind.TheVariants.{Null, Own, Unset}
+use Rattle.aom_safety.proofs.Claimed.{no_owned_object_outside, Outside, claim-set_register, claim_frame, claim_going_above, claim_register_above, claim_unclaimed}
 use Rattle.aom_safety.proofs.Claimed.{declared_moved, going_differs, keep_fits, no_field_here, outside_differs, outside_less, stack_moved}
 use Rattle.aom_safety.proofs.Items.{begins_well, length_forms}
-use Rattle.aom_safety.proofs.Seats.{NoFieldHere, NoSeatHere, no_seat}
+use Rattle.aom_safety.proofs.OwnedObjects.{NoFieldHere, NoOwnedObjectHere, no_owned_object}
 use Rattle.aom_safety.proofs.SemanticsLemmas.{held_lives, held_moved, named_moved, one_place, requested_moved, same_place-true, same_place_refl, tidy_moved}
-use Rattle.aom_safety.proofs.Straight.{frames_reworded, At, Law, fits_unowning, fitted, housed_relocated}
+use Rattle.aom_safety.proofs.Straight.{frames_reworded, At, Law, fits_unowning, fitted, receiver_held_relocated}
 use Rattle.aom_safety.proofs.Straight.{kind_fits, no_word, relabel, settle, top, well, words_set}
 use Rattle.aom_safety.proofs.Things.{stands_object}
-use Rattle.aom_safety.proofs.Housing.{counts_line, houses_role}
+use Rattle.aom_safety.proofs.ReceiverHolding.{counts_line, receiver_conforms_role}
 use Rattle.aom_safety.proofs.RolesLemmas.{itself, stands_itself, through}
 use Rattle.aom_roles.specs.Families.{descends}
 use Rattle.aom_safety.specs.Claims.{Ending, Dispatching, Dying, Layer, Mark, Method, Unwinding, claim}
-use Rattle.aom_safety.specs.Claims.{declared, declared_field, forms, home_claim, items_of, own_field, tasks_of}
-use Rattle.aom_classes.specs.Roles.{destructor_of, role_of}
+use Rattle.aom_safety.specs.Claims.{declared, declared_field, forms, receiver_claim, items_of, own_field, tasks_of}
+use Rattle.aom_link_conditions.specs.Roles.{destructor_of, role_of}
 use Rattle.aom_semantics.specs.Destruction.{destructor_frame, destructed, begun, begun_by}
 use Rattle.aom_safety.specs.Laws.{IsWired}
 use Rattle.aom_semantics.specs.Effects.{applied, deletes}
 use Rattle.aom_semantics.specs.Objects.{is_no_message}
 use Rattle.aom_semantics.specs.Places.{In_service, Queued, service_of, Cell, Elsewhere, Entry, Field, Going, Object, Place, Register}
-use Rattle.aom_semantics.specs.Places.{Root, Tidy, changed, held, moved, named, requested, same_place, seen, Session}
-use Rattle.aom_semantics.specs.State.{Closing, Destroy, AtRoot, Choice, Frame, Home, Inside}
-use Rattle.aom_semantics.specs.State.{Run, Seat, State, Static, next, set_word, thing_holder, word}
-use Rattle.aom_safety.specs.WellTyped.{view_holder, IsOverDying, Now, AllSit, NoSeatAt, NoSeatIn, SomeSits}
-use Rattle.aom_safety.specs.WellTyped.{AllUndo, Back, Caught, Fits, Gone, Good, Houses, IsHoused, IsOfFamily}
+use Rattle.aom_semantics.specs.Places.{Root, NoDuplicates, changed, held, moved, named, requested, same_place, seen, Session}
+use Rattle.aom_semantics.specs.State.{Closing, Destroy, AtRoot, Choice, Frame, Receiver, Inside}
+use Rattle.aom_semantics.specs.State.{Run, OwnedObject, State, Static, next, set_word, thing_holder, word}
+use Rattle.aom_safety.specs.WellTyped.{view_holder, IsOverDying, Now, IsOwnedChain, NoOwnedObjectAt, NoOwnedObjectIn, SomeOwned}
+use Rattle.aom_safety.specs.WellTyped.{AllUndo, Back, Caught, Fits, Gone, Good, ReceiverConforms, ReceiverIsHeld, IsOfFamily}
 use Rattle.aom_safety.specs.WellTyped.{Leaves, NoneIn, NotIn, Returns, SomeIn, Stack, Unclaimed, WellTyped, WordFits, WorksOn}
 use Rattle.aom_roles.specs.Shapes.{kind_of}
-use Rattle.aom_safety.proofs.Suiting.{all_moved, known_plain, same_object, suits_less, unworked_rests}
-use Rattle.aom_safety.specs.Requests.{AllSuit, Suits, Unworked, resting_in, states_claim, thing_kind, works_at}
+use Rattle.aom_safety.proofs.ConformingTo.{all_moved, known_plain, same_object, conforms_to_less, unworked_rests}
+use Rattle.aom_safety.specs.Requests.{AllConformTo, ConformsTo, Unworked, resting_in, states_claim, thing_kind, works_at}
 use Rattle.aom_roles.specs.States.{last_of, states_of}
 use Rattle.aom_semantics.specs.Servers.{is_server}
 use Rattle.aom_roles.specs.Classes.{sessions_in, sessions_of}
@@ -75,39 +75,39 @@ ending_apart x n y same u = grind arith
 pub eqb_comm : (a b : ℕ) → (a == b) ≡ (b == a)
 eqb_comm a b = grind (arith, nat_tests, cases_Bool (a == b), eq-eqb b a, eqb-true a b, ne_eqb b a, eq-eqb a b)
 
-module _ (p : Image) (t : Typing) (cs : List Cell) (q : Place) (o : Object) (tidy : Tidy cs) (there : held cs q ≡ Some o) where
+module _ (p : Image) (t : Typing) (cs : List Cell) (q : Place) (o : Object) (no_duplicates : NoDuplicates cs) (there : held cs q ≡ Some o) where
   pub other_name : (from : Place) (x : Object) → held cs from ≡ Some x → same_place q from ≡ false → (x.name == o.name) ≡ false
   other_name from x h e = ne_eqb x.name o.name (λ same. true≢false (grind (arith, nat_tests, one_place, same_place_refl)))
 
-  pub untouched_method : (k : ℕ → Kind) (fr : Frame) (sh : Shape) (ls : List Layer) → ((x : Object) (from : Place) → fr.home ≡ Inside x from →
-      NoFieldHere q from) → Outside q ls → IsHoused p cs ls fr.home → Untouched p k o.name ls → Untouched p k o.name (Method fr sh ∷ ls)
-  untouched_method k fr sh ls aside out housed u = go housed
+  pub untouched_method : (k : ℕ → Kind) (fr : Frame) (sh : AbstractState) (ls : List Layer) → ((x : Object) (from : Place) → fr.receiver ≡ Inside x from →
+      NoFieldHere q from) → Outside q ls → ReceiverIsHeld p cs ls fr.receiver → Untouched p k o.name ls → Untouched p k o.name (Method fr sh ∷ ls)
+  untouched_method k fr sh ls aside out receiver_held u = go receiver_held
     where
-      Result : Home → Type 0
-      Result home = (WorksOn o.name home → ⊥) × ((f : ℕ) → home_claim p (holder_of p fr.method) home sh o.name f (k f) ≡ k f) × NotIn o.name home
-          × (works_at o.name home ≡ false)
+      Result : Receiver → Type 0
+      Result receiver = (WorksOn o.name receiver → ⊥) × ((f : ℕ) → receiver_claim p (holder_of p fr.method) receiver sh o.name f (k f) ≡ k f) × NotIn o.name receiver
+          × (works_at o.name receiver ≡ false)
 
-      of : (home : Home) → fr.home ≡ home → IsHoused p cs ls home → Result home
+      of : (receiver : Receiver) → fr.receiver ≡ receiver → ReceiverIsHeld p cs ls receiver → Result receiver
       of Static same h = (λ x. x, λ f. refl, tt, refl)
       of AtRoot same h = (λ x. x, λ f. refl, tt, refl)
       of (Inside x from) same h =
           let e = other_name from x h.there (outside_differs q from ls out (aside x from same) h.below) in
           (λ same. true≢false (sym (eq-eqb x.name o.name same) ∙ e), λ f. ap (λ b. cond b (own_field (field_thing p (holder_of p fr.method) f) (field sh f) (k f)) (k f)) e, grind arith, e)
 
-      go : IsHoused p cs ls fr.home → Untouched p k o.name (Method fr sh ∷ ls)
-      go h = let r = of fr.home refl h in record {
+      go : ReceiverIsHeld p cs ls fr.receiver → Untouched p k o.name (Method fr sh ∷ ls)
+      go h = let r = of fr.receiver refl h in record {
         some = λ s. ⊎_elim r.0 u.some s;
-        unclaimed = λ f. ap (λ x. home_claim p (holder_of p fr.method) fr.home sh o.name f x) (u.unclaimed f) ∙ r.1 f;
+        unclaimed = λ f. ap (λ x. receiver_claim p (holder_of p fr.method) fr.receiver sh o.name f x) (u.unclaimed f) ∙ r.1 f;
         none_in = (r.2, u.none_in);
         unworked = (r.3, u.unworked);
         sessions = u.sessions;
       }
 
   -- it does not sit, nor does any in its fields
-  unseated : (xs : List Seat) → NoSeatHere q xs → AllSit cs xs → (SomeSits o.name xs → ⊥) × NoSeatIn o.name xs
-  unseated xs h s = go xs (no_seat cs q xs h s) s
+  unseated : (xs : List OwnedObject) → NoOwnedObjectHere q xs → IsOwnedChain cs xs → (SomeOwned o.name xs → ⊥) × NoOwnedObjectIn o.name xs
+  unseated xs h s = go xs (no_owned_object cs q xs h s) s
     where
-      go : (xs : List Seat) → NoSeatAt q xs → AllSit cs xs → (SomeSits o.name xs → ⊥) × NoSeatIn o.name xs
+      go : (xs : List OwnedObject) → NoOwnedObjectAt q xs → IsOwnedChain cs xs → (SomeOwned o.name xs → ⊥) × NoOwnedObjectIn o.name xs
       go [] h s = (λ x. x, tt)
       go (x ∷ xs) h s =
           let above = go xs h.1 s.1 in
@@ -122,7 +122,7 @@ module _ (p : Image) (t : Typing) (cs : List Cell) (q : Place) (o : Object) (tid
     untouched_method k fr sh ls,
     no_field_here q fr,
     outside_less q (Method fr sh) ls out,
-    untouched k ls (Returns fr.method fr.home) (outside_less q (Method fr sh) ls out) s.4,
+    untouched k ls (Returns fr.method fr.receiver) (outside_less q (Method fr sh) ls out) s.4,
   )
   untouched k (Mark gv ∷ ls) back out s =
       let u = untouched k ls (Caught gv) (outside_less q (Mark gv) ls out) s.1 in
@@ -138,8 +138,8 @@ module _ (p : Image) (t : Typing) (cs : List Cell) (q : Place) (o : Object) (tid
         sessions = λ d c. ap (λ b. cond b Null (claim p d ls (Elsewhere (Session o.name c))))
             (other_name (Going (length (tasks_of ls))) x s.0.1 (going_differs q x ls out)) ∙ u.sessions d c;
       }
-  untouched k (Dispatching w seats ∷ ls) back out s =
-      let h = unseated seats (no_seat_outside q w seats ls out) s.2 in
+  untouched k (Dispatching w owned_chain ∷ ls) back out s =
+      let h = unseated owned_chain (no_owned_object_outside q w owned_chain ls out) s.2 in
       rw s.1 (record {
         some = λ x. ⊎_elim h.0 (λ y. y) x;
         unclaimed = λ f. refl;
@@ -165,7 +165,7 @@ module _ (p : Image) (t : Typing) (cs : List Cell) (q : Place) (o : Object) (tid
 pub record Destroys (p : Image) (x : Thing) (m : ℕ) : Type 0 where
   pub there : IsSome (method_at p m)
   pub role : method_role p m ≡ Some Destruct
-  pub holder : Houses p (thing_holder x) (holder_of p m)
+  pub holder : ReceiverConforms p (thing_holder x) (holder_of p m)
   pub family : (c : ℕ) × (x ≡ An_object_of c) × IsOfFamily p c m
   pub stays : leaves p m ≡ false
   pub quiet : is_quiet p m ≡ true
@@ -183,7 +183,7 @@ destroys_by p wired c d m above e =
     record {
       there = w.0;
       role = w.1;
-      holder = houses_role p wired.family (An_object_of c) c m refl of (ap (λ r. holder_by r (Some of.class)) w.1);
+      holder = receiver_conforms_role p wired.family (An_object_of c) c m refl of (ap (λ r. holder_by r (Some of.class)) w.1);
       family = (c, refl, of);
       stays = w.3;
       quiet = w.4;
@@ -211,7 +211,7 @@ undestructed p wired x e = grind arith
 pub entry_registers : (p : Image) (m : ℕ) → arguments_of p m ≡ [] → (i : ℕ) → register (entry_shape p m) i ≡ Unset
 entry_registers p m e i = ap (λ xs. at Unset (map argument_kind xs) i) e
 
-pub at_alike : (n : ℕ) (x : Filling) (i : ℕ) → at x (replicate n x) i ≡ x
+pub at_alike : (n : ℕ) (x : FieldState) (i : ℕ) → at x (replicate n x) i ≡ x
 at_alike (suc n) x (suc i) = at_alike n x i
 at_alike _ x _ = refl
 
@@ -225,7 +225,7 @@ Dies p cs o ls = changed (claim p (declared p cs) ls) (Going (length (tasks_of l
 pub unset_only : {k : Kind} → Weaker k Unset → k ≡ Unset
 unset_only alike = refl
 
-pub perhaps_only : {x : Filling} → WeakerFilling x Perhaps → x ≡ Perhaps
+pub perhaps_only : {x : FieldState} → WeakerFilling x Perhaps → x ≡ Perhaps
 perhaps_only alike_filling = refl
 
 -- and with no session of its own any more
@@ -245,15 +245,15 @@ unfolding last_of states_of sessions_in sessions_of
 server_last x e = grind arith
 
 module _ (p : Image) (t : Typing) (linked : IsWired p) (typed : IsTyped p t) (cs : List Cell) (o : Object) (ls : List Layer)
-    (tidy : Tidy cs) (stack : Stack p t cs Gone ls) (there : held cs (Going (length (tasks_of ls))) ≡ Some o) (lives : named cs o.name ≡ Some o)
-    (apart : Untouched p (λ f. filled (field_thing p (thing_holder o.thing) f) Perhaps) o.name ls) (suits : AllSuit p cs ls) where
+    (no_duplicates : NoDuplicates cs) (stack : Stack p t cs Gone ls) (there : held cs (Going (length (tasks_of ls))) ≡ Some o) (lives : named cs o.name ≡ Some o)
+    (apart : Untouched p (λ f. filled (field_thing p (thing_holder o.thing) f) Perhaps) o.name ls) (conforms_to : AllConformTo p cs ls) where
   fields_claim : (f : ℕ) → claim p (declared p cs) ls (Field o.name f) ≡ filled (field_thing p (thing_holder o.thing) f) Perhaps
   fields_claim f = claim_unclaimed p (declared p cs) ls o.name f (λ f. filled (field_thing p (thing_holder o.thing) f) Perhaps) apart.unclaimed
       (ap (λ x. declared_field p x f) lives)
 
   -- the object rests as it begins to go
-  rested : Suits (thing_kind p o.thing) (resting_in (states_of (thing_kind p o.thing))) (requested cs o.name)
-  rested = subst (λ k. Suits (thing_kind p o.thing) k (requested cs o.name)) (unworked_rests p o ls apart.unworked) (suits o lives)
+  rested : ConformsTo (thing_kind p o.thing) (resting_in (states_of (thing_kind p o.thing))) (requested cs o.name)
+  rested = subst (λ k. ConformsTo (thing_kind p o.thing) k (requested cs o.name)) (unworked_rests p o ls apart.unworked) (conforms_to o lives)
 
   -- with no session of its own any more
   module _ (fits : (r : Place) → Fits p (seen cs) (held cs r) (Bare p cs o ls r)) where
@@ -266,8 +266,8 @@ module _ (p : Image) (t : Typing) (linked : IsWired p) (typed : IsTyped p t) (cs
     bare none x = grind arith
 
     -- with one
-    clothed : (m height : ℕ) (after : Shape) → Destroys p o.thing m →
-        ((f : ℕ) → field_thing p (holder_of p m) f ≡ None → held cs (Field o.name f) ≡ None) → SaysNoMore after (entry_shape p m) → (r : Place) →
+    clothed : (m height : ℕ) (after : AbstractState) → Destroys p o.thing m →
+        ((f : ℕ) → field_thing p (holder_of p m) f ≡ None → held cs (Field o.name f) ≡ None) → IsImpliedBy after (entry_shape p m) → (r : Place) →
         Fits p (seen cs) (held cs r) (claim p (declared p cs) (Method (destructor_frame p m o (length (tasks_of ls)) height) after ∷ Dying o ∷ ls) r)
     clothed m height after is others w (Register f i) =
         grind (arith, nat_tests, unset_only, entry_registers p m is.arguments i, fits_unowning p, claim_register_above p cs ls f i, eqb-true)
@@ -282,7 +282,7 @@ module _ (p : Image) (t : Typing) (linked : IsWired p) (typed : IsTyped p t) (cs
     pub begins_line : (m : ℕ) → Destroys p o.thing m → ((f : ℕ) → field_thing p (holder_of p m) f ≡ None → held cs (Field o.name f) ≡ None) →
         (s : State) (height : ℕ) → height ≡ length (items_of ls) → s.cells ≡ cs → s.tasks ≡ Run
         (destructor_frame p m o (length (tasks_of ls)) height) ∷ Destroy ∷ tasks_of ls → forms s.items ≡ items_of ls → AllUndo p s.items → WellTyped p t s
-    begins_line m d others s height high cells tasks items undos =
+    begins_line m d others s height high cells tasks items undo_operations =
         let leads = typed.entry m d.there in
         let w = leads.2 in
         let fr = destructor_frame p m o (length (tasks_of ls)) height in
@@ -303,30 +303,30 @@ module _ (p : Image) (t : Typing) (linked : IsWired p) (typed : IsTyped p t) (cs
             ((lives, there), (d.stays, refl, ap is_destruct d.role, d.gives, d.ends, d.quiet, d.family.0, d.family.1, d.family.2), stack),
           );
           fits = clothed m height leads.0 d others w;
-          suits = grind (arith, nat_tests, same_object, there, known_plain, suits_less, rested);
-          tidy = tidy;
+          conforms_to = grind (arith, nat_tests, same_object, there, known_plain, conforms_to_less, rested);
+          no_duplicates = no_duplicates;
         } in
-        begins_well p t cs fr leads.0 (Dying o ∷ ls) s w.entries good cells tasks items undos
+        begins_well p t cs fr leads.0 (Dying o ∷ ls) s w.entries good cells tasks items undo_operations
 
     -- so the first one begins
     pub destruct : (s : State) (height : ℕ) → height ≡ length (items_of ls) →
         s.cells ≡ cs → s.tasks ≡ destructed p o height (tasks_of ls) → forms s.items ≡ items_of ls → AllUndo p s.items → WellTyped p t s
-    destruct s height high cells tasks items undos = go (destructor_of p o.thing) refl tasks
+    destruct s height high cells tasks items undo_operations = go (destructor_of p o.thing) refl tasks
       where
         go : (d : Option ℕ) → destructor_of p o.thing ≡ d → s.tasks ≡ begun_by p d o height (tasks_of ls) → WellTyped p t s
         go None e tasks = record {
           layers = Dying o ∷ ls;
           tasks = tasks;
           items = items;
-          undos = undos;
+          undo_operations = undo_operations;
           good = subst (λ cs. Good p t cs (Dying o ∷ ls)) (sym cells) (record {
             stack = ((lives, there), tt, stack);
             fits = bare e;
-            suits = grind (arith, nat_tests, same_object, there, rested, undestructed p linked o.thing e);
-            tidy = tidy;
+            conforms_to = grind (arith, nat_tests, same_object, there, rested, undestructed p linked o.thing e);
+            no_duplicates = no_duplicates;
           });
         }
-        go (Some m) e tasks = begins_line m (destroys p linked o.thing m e) (others m e) s height high cells tasks items undos
+        go (Some m) e tasks = begins_line m (destroys p linked o.thing m e) (others m e) s height high cells tasks items undo_operations
           where
             others : (m : ℕ) → destructor_of p o.thing ≡ Some m → (f : ℕ) → field_thing p (holder_of p m) f ≡ None → held cs (Field o.name f) ≡ None
             others m e f none = fits_unowning p (seen cs) _ Null refl (subst (λ y. Fits p (seen cs) (held cs (Field o.name f)) (filled y Perhaps))
@@ -337,33 +337,33 @@ module _ (p : Image) (t : Typing) (linked : IsWired p) (typed : IsTyped p t) (cs
     -- so a destruction begins
     pub begin : (s : State) (height : ℕ) → height ≡ length (items_of ls) → s.cells ≡ cs → s.tasks ≡ begun p o height (tasks_of ls) →
         forms s.items ≡ items_of ls → AllUndo p s.items → WellTyped p t s
-    begin s height high cells tasks items undos = go (is_server p o.thing) refl tasks
+    begin s height high cells tasks items undo_operations = go (is_server p o.thing) refl tasks
       where
         left : List ℕ
         left = (service_of cs o.name).sessions
 
-        rests : is_server p o.thing ≡ true → AllSuit p cs (Dying o ∷ ls)
+        rests : is_server p o.thing ≡ true → AllConformTo p cs (Dying o ∷ ls)
         rests server x lives' = at_name (o.name == x.name) refl
           where
             at_name : (b : Bool) → (o.name == x.name) ≡ b →
-                Suits (thing_kind p x.thing) (cond b (resting_in (last_of (thing_kind p x.thing))) (states_claim p x ls)) (requested cs x.name)
+                ConformsTo (thing_kind p x.thing) (cond b (resting_in (last_of (thing_kind p x.thing))) (states_claim p x ls)) (requested cs x.name)
             at_name true e =
-                subst (λ y. Suits (thing_kind p y.thing) (resting_in (last_of (thing_kind p y.thing))) (requested cs y.name)) (same_object cs o x lives lives'
-                e) (subst (λ n. Suits (thing_kind p o.thing) (resting_in n) (requested cs o.name)) (sym (server_last (thing_kind p o.thing) server)) rested)
-            at_name false e = suits x lives'
+                subst (λ y. ConformsTo (thing_kind p y.thing) (resting_in (last_of (thing_kind p y.thing))) (requested cs y.name)) (same_object cs o x lives lives'
+                e) (subst (λ n. ConformsTo (thing_kind p o.thing) (resting_in n) (requested cs o.name)) (sym (server_last (thing_kind p o.thing) server)) rested)
+            at_name false e = conforms_to x lives'
 
         go : (b : Bool) → is_server p o.thing ≡ b → s.tasks ≡ cond b (Closing ∷ Destroy ∷ tasks_of ls) (destructed p o height (tasks_of ls)) → WellTyped p t s
-        go false plain tasks = destruct (grind (arith, nat_tests, eqb-true)) s height high cells tasks items undos
+        go false plain tasks = destruct (grind (arith, nat_tests, eqb-true)) s height high cells tasks items undo_operations
         go true server tasks = record {
           layers = Ending o left ∷ Dying o ∷ ls;
           tasks = tasks;
           items = items;
-          undos = undos;
+          undo_operations = undo_operations;
           good = subst (λ cs'. Good p t cs' (Ending o left ∷ Dying o ∷ ls)) (sym cells) (record {
             stack = (record { server = server; lives = lives; listed = λ c h. h }, tt, refl, ((lives, there), tt, stack));
             fits = grind (arith, nat_tests, eqb-true, fields_claim);
-            suits = rests server;
-            tidy = tidy;
+            conforms_to = rests server;
+            no_duplicates = no_duplicates;
           });
         }
 
@@ -397,16 +397,16 @@ module _ (p : Image) (t : Typing) (cs : List Cell) (o : Object) (q : Place) (ls 
       go false e f = subst (λ k. Fits p (seen cs') (held cs' r) k) (sym (claims r)) f
 
   -- so its destruction begins
-  pub goes_well : IsWired p → IsTyped p t → Tidy cs → Stack p t (moved q (Going (length (tasks_of ls'))) cs) Gone ls' → Untouched p
-      (λ f. filled (field_thing p (thing_holder o.thing) f) Perhaps) o.name ls' → AllSuit p cs ls' → (s : State) (height : ℕ) → height ≡ length (items_of ls') →
+  pub goes_well : IsWired p → IsTyped p t → NoDuplicates cs → Stack p t (moved q (Going (length (tasks_of ls'))) cs) Gone ls' → Untouched p
+      (λ f. filled (field_thing p (thing_holder o.thing) f) Perhaps) o.name ls' → AllConformTo p cs ls' → (s : State) (height : ℕ) → height ≡ length (items_of ls') →
       s.cells ≡ moved q (Going (length (tasks_of ls'))) cs → s.tasks ≡ begun p o height (tasks_of ls') → forms s.items ≡ items_of ls' →
       AllUndo p s.items → WellTyped p t s
-  goes_well wired typed tidy stack apart suits s height high cells tasks items undos =
+  goes_well wired typed no_duplicates stack apart conforms_to s height high cells tasks items undo_operations =
       grind (arith, nat_tests, begin, tidy_moved, no_going, goes_there, named_moved, held_lives, there, all_moved, goes_fitting)
 
-module _ (p : Image) (t : Typing) (c : Choice) (s : State) (fr : Frame) (sh : Shape) (ls : List Layer) (at_hand : At p t s fr sh ls) where
-  pub law_delete : IsWired p → IsTyped p t → (a : ℕ) → Law p t c s fr sh ls at_hand (Delete a)
-  law_delete linked typed a n leads = ((ap is_none none, (no_message (held s.cells (top ls a)) (register sh a) n.0 (kind_fits p t c s fr sh ls at_hand a), tt)), go (held s.cells (top ls a)) refl)
+module _ (p : Image) (t : Typing) (c : Choice) (s : State) (fr : Frame) (sh : AbstractState) (ls : List Layer) (has_task : At p t s fr sh ls) where
+  pub law_delete : IsWired p → IsTyped p t → (a : ℕ) → Law p t c s fr sh ls has_task (Delete a)
+  law_delete linked typed a n leads = ((ap is_none none, (no_message (held s.cells (top ls a)) (register sh a) n.0 (kind_fits p t c s fr sh ls has_task a), tt)), go (held s.cells (top ls a)) refl)
     where
       no_message : (o : Option Object) (k : Kind) → may_be_destroyed k ≡ true → Fits p (seen s.cells) o k → is_no_message o ≡ true
       no_message x k e f = grind (arith, nat_tests, stands_object p)
@@ -415,38 +415,38 @@ module _ (p : Image) (t : Typing) (c : Choice) (s : State) (fr : Frame) (sh : Sh
       cs = s.cells
 
       none : word fr a ≡ None
-      none = no_word p t c s fr sh ls at_hand a (grind arith)
+      none = no_word p t c s fr sh ls has_task a (grind arith)
 
       fr' : Frame
       fr' = set_word fr a None
 
-      sh' : Shape
+      sh' : AbstractState
       sh' = set_register sh a Null
 
       words : (i : ℕ) → WordFits (word (set_word fr a None) i) (register (set_register sh a Null) i)
-      words = words_set fr.words sh a None Null at_hand.good.stack.1.words refl
+      words = words_set fr.words sh a None Null has_task.good.stack.1.words refl
 
       claims : (r : Place) → claim p (declared p cs) (Method fr' sh' ∷ ls) r ≡ changed (claim p (declared p cs) (Method fr sh ∷ ls)) (top ls a) Null r
       claims r = claim_frame p (declared p cs) fr fr' sh' ls r refl refl ∙ claim-set_register p (declared p cs) fr sh ls a Null r
 
       go : (x : Option Object) → held s.cells (top ls a) ≡ x → WellTyped p t (applied p fr (tasks_of ls) s (deletes fr x a))
-      go None e = well p t c s fr sh ls at_hand (applied p fr (tasks_of ls) s (deletes fr None a)) (next fr') sh' refl at_hand.items at_hand.undos
+      go None e = well p t c s fr sh ls has_task (applied p fr (tasks_of ls) s (deletes fr None a)) (next fr') sh' refl has_task.items has_task.undo_operations
           (settle p t cs (next fr') sh' ls (grind (arith, nat_tests, relabel, cs, fr', sh', top, fitted, claim-set_register, words)) leads.0)
       go (Some o) e =
           let q = top ls a in
           let g = Going (length (Run fr ∷ tasks_of ls)) in
           let before = Method fr sh ∷ ls in
           let below = Method fr' sh' ∷ ls in
-          let free = no_going p t cs o q before below at_hand.good.fits e (omega arith) claims in
-          let housed = housed_relocated p cs q g ls fr.home free (omega arith) (omega arith) (λ o from e. (tt, tt)) at_hand.good.stack.2 in
+          let free = no_going p t cs o q before below has_task.good.fits e (omega arith) claims in
+          let receiver_held = receiver_held_relocated p cs q g ls fr.receiver free (omega arith) (omega arith) (λ o from e. (tt, tt)) has_task.good.stack.2 in
           let k : ℕ → Kind = λ f. filled (field_thing p (thing_holder o.thing) f) Perhaps in
-          goes_well p t cs o q before below at_hand.good.fits e (omega arith) claims linked typed at_hand.good.tidy
-          (leads.0, frames_reworded at_hand.good.stack.1 words, housed, at_hand.good.stack.3, stack_moved p t cs q g ls _ free (omega arith) (omega arith) at_hand.good.stack.4)
-          (untouched_method p t cs q o at_hand.good.tidy e k fr' sh' ls (λ x from e. tt) (omega arith) at_hand.good.stack.2
-          (untouched p t cs q o at_hand.good.tidy e k ls _ (omega arith) at_hand.good.stack.4)) at_hand.good.suits (applied p fr (tasks_of ls) s
-          (deletes fr (Some o) a)) (length s.items) (sym (length_forms s.items) ∙ ap length at_hand.items) refl refl at_hand.items at_hand.undos
+          goes_well p t cs o q before below has_task.good.fits e (omega arith) claims linked typed has_task.good.no_duplicates
+          (leads.0, frames_reworded has_task.good.stack.1 words, receiver_held, has_task.good.stack.3, stack_moved p t cs q g ls _ free (omega arith) (omega arith) has_task.good.stack.4)
+          (untouched_method p t cs q o has_task.good.no_duplicates e k fr' sh' ls (λ x from e. tt) (omega arith) has_task.good.stack.2
+          (untouched p t cs q o has_task.good.no_duplicates e k ls _ (omega arith) has_task.good.stack.4)) has_task.good.conforms_to (applied p fr (tasks_of ls) s
+          (deletes fr (Some o) a)) (length s.items) (sym (length_forms s.items) ∙ ap length has_task.items) refl refl has_task.items has_task.undo_operations
 
   -- the instruction of this file by its law
-  abbrev pub of_destruction : IsWired p → IsTyped p t → (i : Instr) → Option (Law p t c s fr sh ls at_hand i)
+  abbrev pub of_destruction : IsWired p → IsTyped p t → (i : Instr) → Option (Law p t c s fr sh ls has_task i)
   of_destruction wired typed (Delete a) = Some (law_delete wired typed a)
   of_destruction wired typed _ = None

@@ -4,12 +4,12 @@ use Rattle.std.proofs.lemmas.Bool.Decides.{nat_tests}
 use Rattle.aom_image.specs.declared.method.Role.TheVariants.{Destruct}
 use Rattle.aom_image.specs.declared.class.ClassKind.{ClassKind}
 use Rattle.aom_safety.specs.Laws.{IsWired}
-use Rattle.aom_classes.specs.Roles.{role_of}
+use Rattle.aom_link_conditions.specs.Roles.{role_of}
 use Rattle.aom_roles.specs.Families.{parent_of, fields_above}
 use Rattle.aom_safety.proofs.RolesLemmas.{child, itself, through}
 use Rattle.aom_semantics.specs.Destruction.{begun_by, class_destructor, next_destructor, needs_past, is_past}
 use Rattle.aom_safety.proofs.Dropping.{held_dropped, queue_dropped}
-use Rattle.aom_safety.proofs.Housing.{destructs_member}
+use Rattle.aom_safety.proofs.ReceiverHolding.{destructs_member}
 use Rattle.aom_safety.proofs.Destroying.{eqb_comm, begins_line, destroys_by, Destroys, Bare, untouched, Untouched}
 use Rattle.std.proofs.Common.{leb-true, [], Bool, IsTrue, List, None, Option, Some, ap, arith, cond, false}
 use Rattle.std.proofs.Common.{length, refl, subst, suc, sym, true, zero, ℕ, ◌==◌, ◌∙◌, ◌∷◌, ◌≡◌, ◌≤◌, ◌&&◌}
@@ -19,42 +19,42 @@ use Rattle.aom_image.specs.Image.{Image}
 use Rattle.aom_image.specs.Views.{fields_of, has, method_role}
 use Rattle.aom_image.specs.declared.method.Thing.{Thing}
 use Rattle.aom_image.specs.declared.method.Thing.TheVariants.{Object as An_object_of}
-use Rattle.aom_shape.specs.Kinds.{all_empty, field, filled, is_empty, no_entry, none_owns, register}
-use Rattle.aom_rules.specs.Calls.{empty_past, fields_done, is_destruct, result_moved}
+use Rattle.aom_abstract_state.specs.Kinds.{all_empty, field, filled, is_empty, no_entry, none_owns, register}
+use Rattle.aom_typing_rules.specs.Calls.{empty_past, fields_done, is_destruct, result_moved}
 use Rattle.aom_image.specs.declared.method.Role.{Role}
 use Rattle.aom_roles.specs.Tests.{AllTrue}
 use Rattle.aom_roles.specs.Roles.{is_cancel}
-use Rattle.aom_shape.specs.Shape.{Shape}
+use Rattle.aom_abstract_state.specs.AbstractState.{AbstractState}
 use Rattle.aom_roles.specs.Tables.{at}
 use Rattle.aom_roles.specs.Things.{holder_by, Member, field_thing, holder_of}
-use Rattle.aom_rules.specs.Typing.{IsTyped, Typing}
-use Rattle.aom_shape.specs.declared.kind.Filling.{Filling}
-use Rattle.aom_shape.specs.declared.kind.Filling.TheVariants.{Perhaps}
-use Rattle.aom_shape.specs.declared.kind.Kind.TheVariants.{Null}
+use Rattle.aom_typing_rules.specs.Typing.{IsTyped, Typing}
+use Rattle.aom_abstract_state.specs.declared.kind.FieldState.{FieldState}
+use Rattle.aom_abstract_state.specs.declared.kind.FieldState.TheVariants.{Perhaps}
+use Rattle.aom_abstract_state.specs.declared.kind.Kind.TheVariants.{Null}
 use Rattle.aom_safety.proofs.Claimed.{claim_unclaimed, claim_register_above}
 use Rattle.aom_safety.proofs.Finishing.{ReturnLaw, ended_plainly, no_entries, none_left, none_owns_at, return_needs, same_items}
 use Rattle.aom_safety.proofs.Going.{past_by}
 use Rattle.aom_safety.proofs.Straight.{At, fits_unowning}
 use Rattle.aom_safety.specs.Claims.{forms, declared_field, Dying, Layer, claim, declared, items_of, own_field, tasks_of}
-use Rattle.aom_semantics.specs.Places.{Queued, Session, Request, Cell, Sight, In_service, Elsewhere, Entry}
+use Rattle.aom_semantics.specs.Places.{Queued, Session, Request, Cell, CellView, In_service, Elsewhere, Entry}
 use Rattle.aom_semantics.specs.Places.{Field, Going, Object, Place, Register, Root, held, seen}
 use Rattle.aom_semantics.specs.Servers.{is_queue_of, without_queue}
-use Rattle.aom_semantics.specs.State.{home_holder, Choice, Frame, Inside, State, thing_holder}
-use Rattle.aom_safety.specs.WellTyped.{Gone, WellTyped, Houses, IsOfFamily, Fits, Good}
-use Rattle.aom_shape.specs.Arguments.{after_of}
+use Rattle.aom_semantics.specs.State.{receiver_holder, Choice, Frame, Inside, State, thing_holder}
+use Rattle.aom_safety.specs.WellTyped.{Gone, WellTyped, ReceiverConforms, IsOfFamily, Fits, Good}
+use Rattle.aom_abstract_state.specs.Arguments.{after_of}
 use Rattle.aom_roles.specs.States.{states_of, last_of}
-use Rattle.aom_safety.specs.Requests.{AllSuit, Suits, resting_in}
-use Rattle.aom_safety.proofs.Suiting.{unworked_rests, known_plain, same_object, suits_less}
+use Rattle.aom_safety.specs.Requests.{AllConformTo, ConformsTo, resting_in}
+use Rattle.aom_safety.proofs.ConformingTo.{unworked_rests, known_plain, same_object, conforms_to_less}
 use Rattle.aom_safety.proofs.Attending.{plain_claim}
 
-pub empty_at : (ts : List Thing) (xs : List Filling) (f : ℕ) (y : Thing) → all_empty ts xs ≡ true → slice_get ts f ≡ Some y → is_empty (at Perhaps xs f) ≡ true
+pub empty_at : (ts : List Thing) (xs : List FieldState) (f : ℕ) (y : Thing) → all_empty ts xs ≡ true → slice_get ts f ≡ Some y → is_empty (at Perhaps xs f) ≡ true
 empty_at [] xs f y e h = let clash : slice_get {X = Thing} [] f ≡ Some y = h in cc
 empty_at (t ∷ ts) [] f y e h = cc
 empty_at (t ∷ ts) (x ∷ xs) zero y e h = (and_parts _ _ e).0
 empty_at (t ∷ ts) (x ∷ xs) (suc f) y e h = empty_at ts xs f y (and_parts _ _ e).1 h
 
 -- a field past so many is empty where these are
-past_at : (k : ℕ) (ts : List Thing) (xs : List Filling) (f : ℕ) (y : Thing) → empty_past k ts xs ≡ true → k ≤ f → slice_get ts f ≡ Some y →
+past_at : (k : ℕ) (ts : List Thing) (xs : List FieldState) (f : ℕ) (y : Thing) → empty_past k ts xs ≡ true → k ≤ f → slice_get ts f ≡ Some y →
     is_empty (at Perhaps xs f) ≡ true
 past_at zero ts xs f y e le h = empty_at ts xs f y e h
 past_at (suc k) [] xs f y e le h = let clash : slice_get {X = Thing} [] f ≡ Some y = h in cc
@@ -73,45 +73,45 @@ destructs_only : (r : Option Role) → is_destruct r ≡ true → is_cancel r �
 destructs_only x e = grind arith
 
 -- what may rest as its destructor ends rests
-last_rests : (k : Option ClassKind) (r : Option Request) → Suits k (resting_in (last_of k)) r → Suits k (resting_in (states_of k)) r
+last_rests : (k : Option ClassKind) (r : Option Request) → ConformsTo k (resting_in (last_of k)) r → ConformsTo k (resting_in (states_of k)) r
 unfolding last_of states_of
 last_rests k r s = grind arith
 
 -- an empty field owns nothing, and what owns nothing fits
-empty_none : (p : Image) (h : Sight) (x : Option Object) (y : Thing) (z : Filling) → is_empty z ≡ true → Fits p h x (filled (Some y) z) → x ≡ None
+empty_none : (p : Image) (h : CellView) (x : Option Object) (y : Thing) (z : FieldState) → is_empty z ≡ true → Fits p h x (filled (Some y) z) → x ≡ None
 empty_none p h x y z e f = grind (arith, nat_tests, fits_unowning p h x Null)
 
-module _ (p : Image) (t : Typing) (c : Choice) (s : State) (fr : Frame) (sh : Shape) (o : Object) (ls : List Layer) (at_hand : At p t s fr sh (Dying o ∷ ls)) where
+module _ (p : Image) (t : Typing) (c : Choice) (s : State) (fr : Frame) (sh : AbstractState) (o : Object) (ls : List Layer) (has_task : At p t s fr sh (Dying o ∷ ls)) where
   abbrev cs : List Cell
   cs = s.cells
 
   abbrev g : Place
   g = Going (length (tasks_of ls))
 
-  abbrev h : Sight
+  abbrev h : CellView
   h = seen s.cells
 
   -- which class its object is of, and which the destructor
   abbrev class : ℕ
-  class = at_hand.good.stack.4.1.6
+  class = has_task.good.stack.4.1.6
 
-  thing : o.thing ≡ An_object_of at_hand.good.stack.4.1.6
-  thing = at_hand.good.stack.4.1.7
+  thing : o.thing ≡ An_object_of has_task.good.stack.4.1.6
+  thing = has_task.good.stack.4.1.7
 
-  line : IsOfFamily p at_hand.good.stack.4.1.6 fr.method
-  line = at_hand.good.stack.4.1.8
+  line : IsOfFamily p has_task.good.stack.4.1.6 fr.method
+  line = has_task.good.stack.4.1.8
 
-  home : fr.home ≡ Inside o (Going (length (tasks_of ls)))
-  home = at_hand.good.stack.4.1.1
+  receiver : fr.receiver ≡ Inside o (Going (length (tasks_of ls)))
+  receiver = has_task.good.stack.4.1.1
 
   destructs : is_destruct (method_role p fr.method) ≡ true
-  destructs = at_hand.good.stack.4.1.2
+  destructs = has_task.good.stack.4.1.2
 
   holder : holder_of p fr.method ≡ Member line.class
   holder = ap (λ k. holder_by (method_role p fr.method) k) line.of ∙ destructs_member (method_role p fr.method) line.class destructs
 
-  houses : Houses p (thing_holder o.thing) (holder_of p fr.method)
-  houses = subst (λ k. Houses p (home_holder k) (holder_of p fr.method)) home at_hand.good.stack.1.holder
+  receiver_conforms : ReceiverConforms p (thing_holder o.thing) (holder_of p fr.method)
+  receiver_conforms = subst (λ k. ReceiverConforms p (receiver_holder k) (holder_of p fr.method)) receiver has_task.good.stack.1.holder
 
   -- how many of its class's fields are the parent's
   abbrev above : ℕ
@@ -122,7 +122,7 @@ module _ (p : Image) (t : Typing) (c : Choice) (s : State) (fr : Frame) (sh : Sh
       (ends : IsTrue (has (after_of p fr.method) sh.states)) where
     -- nothing is left past the parent's
     past : (f : ℕ) → above ≤ f → held cs (Field o.name f) ≡ None
-    past f le = go (field_thing p (holder_of p fr.method) f) refl (grind (arith, nat_tests, home))
+    past f le = go (field_thing p (holder_of p fr.method) f) refl (grind (arith, nat_tests, receiver))
       where
         go : (x : Option Thing) → field_thing p (holder_of p fr.method) f ≡ x → Fits p h (held cs (Field o.name f)) (own_field x (field sh f) Null) →
             held cs (Field o.name f) ≡ None
@@ -136,7 +136,7 @@ module _ (p : Image) (t : Typing) (c : Choice) (s : State) (fr : Frame) (sh : Sh
     IsBeside r = Unit {0}
 
     beside : (r : Place) → IsBeside r → Fits p h (held cs r) (claim p (declared p cs) (Dying o ∷ ls) r)
-    beside (Register f i) u = go (length (tasks_of (Dying o ∷ ls)) == f) refl (at_hand.good.fits (Register f i))
+    beside (Register f i) u = go (length (tasks_of (Dying o ∷ ls)) == f) refl (has_task.good.fits (Register f i))
       where
         go : (b : Bool) → (length (tasks_of (Dying o ∷ ls)) == f) ≡ b → Fits p h (held cs (Register f i))
             (cond b (register sh i) (claim p (declared p cs) ls (Register f i))) → Fits p h (held cs (Register f i)) (claim p (declared p cs) ls (Register f i))
@@ -144,31 +144,31 @@ module _ (p : Image) (t : Typing) (c : Choice) (s : State) (fr : Frame) (sh : Sh
             (rw (fits_unowning p h _ (register sh i) (none_owns_at sh.registers i free) fits) tt)
         go false e fits = fits
     beside (Entry k) u = grind (arith, nat_tests, no_entries sh.entries entries)
-    beside (Field m f) other = grind (arith, nat_tests, home)
-    beside (Elsewhere Root) u = grind (arith, nat_tests, home)
+    beside (Field m f) other = grind (arith, nat_tests, receiver)
+    beside (Elsewhere Root) u = grind (arith, nat_tests, receiver)
     beside (Elsewhere In_service) u = grind (arith, nat_tests, plain_claim, destructs)
-    beside (Elsewhere w) u = at_hand.good.fits (Elsewhere w)
-    beside (Going k) u = at_hand.good.fits (Going k)
+    beside (Elsewhere w) u = has_task.good.fits (Elsewhere w)
+    beside (Going k) u = has_task.good.fits (Going k)
 
     -- the object is in a state in which it may go
-    suits_dying : AllSuit p cs (Dying o ∷ ls)
-    suits_dying x lives = grind (arith, nat_tests, home, same_object, suits_less, known_plain, destructs_only, destructs)
+    conforms_to_dying : AllConformTo p cs (Dying o ∷ ls)
+    conforms_to_dying x lives = grind (arith, nat_tests, receiver, same_object, conforms_to_less, known_plain, destructs_only, destructs)
 
     -- with no fields of the parent's class the cell goes
     goes : ((f : ℕ) → held cs (Field o.name f) ≡ None) → Good p t cs (Dying o ∷ ls)
-    goes null = search (arith, nat_tests, suits_dying, eqb-true o.name, beside)
+    goes null = search (arith, nat_tests, conforms_to_dying, eqb-true o.name, beside)
 
     -- no other layer works on it
     apart : Untouched p (λ f. filled (field_thing p (thing_holder o.thing) f) Perhaps) o.name ls
-    apart = untouched p t cs g o at_hand.good.tidy at_hand.good.stack.4.0.1 (λ f. filled (field_thing p (thing_holder o.thing) f) Perhaps) ls Gone
-        (omega arith) at_hand.good.stack.4.2
+    apart = untouched p t cs g o has_task.good.no_duplicates has_task.good.stack.4.0.1 (λ f. filled (field_thing p (thing_holder o.thing) f) Perhaps) ls Gone
+        (omega arith) has_task.good.stack.4.2
 
     bare : (r : Place) → Fits p h (held cs r) (Bare p cs o ls r)
     bare (Field n f) = go (o.name == n) refl
       where
         declares : claim p (declared p cs) ls (Field o.name f) ≡ filled (field_thing p (thing_holder o.thing) f) Perhaps
         declares = claim_unclaimed p (declared p cs) ls o.name f
-            (λ f. filled (field_thing p (thing_holder o.thing) f) Perhaps) apart.unclaimed (ap (λ x. declared_field p x f) at_hand.good.stack.4.0.0)
+            (λ f. filled (field_thing p (thing_holder o.thing) f) Perhaps) apart.unclaimed (ap (λ x. declared_field p x f) has_task.good.stack.4.0.0)
 
         go : (b : Bool) → (o.name == n) ≡ b → Fits p h (held cs (Field n f)) (claim p (declared p cs) ls (Field n f))
         go true e = subst (λ n. Fits p h (held cs (Field n f)) (claim p (declared p cs) ls (Field n f))) (eqb-true o.name n e) (grind (arith, nat_tests, declares))
@@ -181,8 +181,8 @@ module _ (p : Image) (t : Typing) (c : Choice) (s : State) (fr : Frame) (sh : Sh
     bare (Elsewhere In_service) = beside (Elsewhere In_service) tt
     bare (Elsewhere (Queued m k)) = beside (Elsewhere (Queued m k)) tt
 
-    suits_below : AllSuit p cs ls
-    suits_below x lives = grind (arith, nat_tests, suits_dying x lives, unworked_rests p x ls, eqb-true o.name x.name, last_rests)
+    conforms_to_below : AllConformTo p cs ls
+    conforms_to_below x lives = grind (arith, nat_tests, conforms_to_dying x lives, unworked_rests p x ls, eqb-true o.name x.name, last_rests)
 
     -- what is left is another cell's, or the parent's
     left : AllTrue (needs_past above (without_queue o.name cs) o.name)
@@ -213,14 +213,14 @@ module _ (p : Image) (t : Typing) (c : Choice) (s : State) (fr : Frame) (sh : Sh
       Then d = record s { tasks = begun_by p d o fr.height (tasks_of ls) }
 
       dies : ((f : ℕ) → held cs (Field o.name f) ≡ None) → WellTyped p t (Then None)
-      dies null = record { layers = Dying o ∷ ls; tasks = refl; items = items; undos = at_hand.undos; good = goes null }
+      dies null = record { layers = Dying o ∷ ls; tasks = refl; items = items; undo_operations = has_task.undo_operations; good = goes null }
 
       begins : (e k : ℕ) → parent_of p line.class ≡ Some e → role_of p e Destruct ≡ Some k → WellTyped p t (Then (Some k))
       begins e k parent role =
-          let family = through p at_hand.good.stack.4.1.6 line.class e line.above (child p line.class e e parent (itself p e)) in
-          let d = subst (λ x. Destroys p x k) (sym thing) (destroys_by p wired at_hand.good.stack.4.1.6 e k family role) in
-          begins_line p t wired typed cs o ls at_hand.good.tidy at_hand.good.stack.4.2 at_hand.good.stack.4.0.1 at_hand.good.stack.4.0.0 apart suits_below bare
-          k d others (Then (Some k)) fr.height at_hand.good.stack.1.height refl refl items at_hand.undos
+          let family = through p has_task.good.stack.4.1.6 line.class e line.above (child p line.class e e parent (itself p e)) in
+          let d = subst (λ x. Destroys p x k) (sym thing) (destroys_by p wired has_task.good.stack.4.1.6 e k family role) in
+          begins_line p t wired typed cs o ls has_task.good.no_duplicates has_task.good.stack.4.2 has_task.good.stack.4.0.1 has_task.good.stack.4.0.0 apart conforms_to_below bare
+          k d others (Then (Some k)) fr.height has_task.good.stack.1.height refl refl items has_task.undo_operations
         where
           others : (f : ℕ) → field_thing p (holder_of p k) f ≡ None → held cs (Field o.name f) ≡ None
           others f none = past f (subst (λ x. fields_above p x ≤ f) (sym parent) (none_from (fields_of p e) f (wired.empties e k role f ∙ none)))
@@ -238,20 +238,20 @@ module _ (p : Image) (t : Typing) (c : Choice) (s : State) (fr : Frame) (sh : Sh
 
   pub law_destructor : IsWired p → IsTyped p t → (a : ℕ) → ReturnLaw p t s fr sh (Dying o ∷ ls) a
   law_destructor wired typed a r =
-      let its = at_hand.good.stack.4.1 in
+      let its = has_task.good.stack.4.1 in
       let done : fields_done p true (Member line.class) sh.fields ≡ true =
       ap (λ k. fields_done p true k sh.fields) (sym holder) ∙ ap (λ b. fields_done p b (holder_of p fr.method) sh.fields) (sym destructs) ∙ r.fields in
       let free : none_owns sh.registers ≡ true = ap (λ g. none_owns (result_moved p fr.method fr.place sh g a).registers) (sym its.3) ∙ r.free in
       let entries : no_entry sh.entries ≡ true = none_left p fr sh a its.3 r in
-      let items = same_items p t c s fr sh (Dying o ∷ ls) at_hand entries in (
-        return_needs p t c s fr sh (Dying o ∷ ls) at_hand a r (rw its.3 tt) (rw home (rw line.of (left entries free done r.ends))),
+      let items = same_items p t c s fr sh (Dying o ∷ ls) has_task entries in (
+        return_needs p t c s fr sh (Dying o ∷ ls) has_task a r (rw its.3 tt) (rw receiver (rw line.of (left entries free done r.ends))),
         grind (
           arith,
           nat_tests,
-          ended_plainly p t c s fr sh (Dying o ∷ ls) at_hand a r,
+          ended_plainly p t c s fr sh (Dying o ∷ ls) has_task a r,
           destructs_only,
           destructs,
-          home,
+          receiver,
           next_well entries free done r.ends wired typed items,
         ),
       )

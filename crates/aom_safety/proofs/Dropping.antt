@@ -6,24 +6,24 @@ use Rattle.aom_image.specs.Image.{Image}
 use Rattle.aom_image.specs.declared.method.Thing.{Thing}
 use Rattle.aom_image.specs.declared.method.Thing.TheVariants.{Message}
 use Rattle.aom_roles.specs.Classes.{sessions_in}
-use Rattle.aom_rules.specs.Typing.{Typing}
-use Rattle.aom_shape.specs.Kinds.{filled}
-use Rattle.aom_shape.specs.declared.kind.Filling.TheVariants.{Full}
-use Rattle.aom_shape.specs.declared.kind.Kind.TheVariants.{Null}
+use Rattle.aom_typing_rules.specs.Typing.{Typing}
+use Rattle.aom_abstract_state.specs.Kinds.{filled}
+use Rattle.aom_abstract_state.specs.declared.kind.FieldState.TheVariants.{Full}
+use Rattle.aom_abstract_state.specs.declared.kind.Kind.TheVariants.{Null}
 pub use Rattle.aom_safety.proofs.SemanticsLemmas.{requested_unnamed}
 use Rattle.aom_safety.proofs.SemanticsLemmas.{cond_same, held_lives, same_place-true, same_place_refl}
 use Rattle.aom_safety.proofs.Services.{attended_at}
 use Rattle.aom_safety.specs.Claims.{claim, Dispatching, Dying, Ending, Layer, Mark, Method, Unwinding, declared, declared_field}
-use Rattle.aom_semantics.specs.Places.{Sight, seen, Cell, Elsewhere, Field, In_service, Object, Place, Queued, Session}
-use Rattle.aom_semantics.specs.Places.{Tidy, held, named, requested, same_place, service_of, without, Service}
+use Rattle.aom_semantics.specs.Places.{CellView, seen, Cell, Elsewhere, Field, In_service, Object, Place, Queued, Session}
+use Rattle.aom_semantics.specs.Places.{NoDuplicates, held, named, requested, same_place, service_of, without, Service}
 use Rattle.aom_semantics.specs.Servers.{is_server, has_message, has_session, is_queue_of, message_thing, session_thing, without_queue}
-use Rattle.aom_semantics.specs.State.{Home, Inside, Seat}
-use Rattle.aom_safety.specs.WellTyped.{EndsSessions, Fits, SitsFirst, AllSit, Back, IsBelow, IsHoused, SitsIn, Stack, seat_of}
+use Rattle.aom_semantics.specs.State.{Receiver, Inside, OwnedObject}
+use Rattle.aom_safety.specs.WellTyped.{EndsSessions, Fits, OwnedFirst, IsOwnedChain, Back, IsBelow, ReceiverIsHeld, OwnedWithin, Stack, owned_object_of}
 use Rattle.std.specs.Prelude.{is_some}
 use Rattle.std.proofs.lemmas.Option.{same_Some}
-use Rattle.aom_shape.specs.declared.kind.Kind.{Kind}
+use Rattle.aom_abstract_state.specs.declared.kind.Kind.{Kind}
 use Rattle.aom_safety.proofs.Claimed.{fits_age}
-use Rattle.aom_safety.specs.Requests.{AllSuit}
+use Rattle.aom_safety.specs.Requests.{AllConformTo}
 use Rattle.aom_roles.specs.Shapes.{kind_of}
 
 -- a message that waits or is served
@@ -57,7 +57,7 @@ module _ (gone : Place → Bool) where
     pub was : named cs n ≡ Some object
     pub none : named (dropped cs) n ≡ None
 
-  pub each_name : (cs : List Cell) → Tidy cs → (n : ℕ) → SameAtName cs n ⊎ Went cs n
+  pub each_name : (cs : List Cell) → NoDuplicates cs → (n : ℕ) → SameAtName cs n ⊎ Went cs n
   each_name [] t n = inl (record { name = refl; service = refl; request = refl })
   each_name (c ∷ cs) t n = go (gone c.owner) (c.object.name == n) refl refl (each_name cs t.2 n)
     where
@@ -119,29 +119,29 @@ module _ (gone : Place → Bool) where
   pub fewer_held : (cs : List Cell) (r : Place) → held cs r ≡ None → held (dropped cs) r ≡ None
   fewer_held cs r e = held_dropped cs r ∙ ap (λ x. cond (gone r) None x) e ∙ cond_same (gone r) None
 
-  pub fewer_requested : (cs : List Cell) → Tidy cs → (n : ℕ) → requested cs n ≡ None → requested (dropped cs) n ≡ None
+  pub fewer_requested : (cs : List Cell) → NoDuplicates cs → (n : ℕ) → requested cs n ≡ None → requested (dropped cs) n ≡ None
   fewer_requested cs t n e = ⊎_elim (λ s. s.request ∙ e) (λ w. requested_unnamed (dropped cs) n w.none) (each_name cs t n)
 
-  pub tidy_dropped : (cs : List Cell) → Tidy cs → Tidy (dropped cs)
+  pub tidy_dropped : (cs : List Cell) → NoDuplicates cs → NoDuplicates (dropped cs)
   tidy_dropped [] t = tt
   tidy_dropped (c ∷ cs) t = grind (arith, nat_tests, tidy_dropped cs t.2, fewer_held cs c.owner t.0, each_name)
 
   -- where these are messages
-  module _ (p : Image) (cs : List Cell) (tidy : Tidy cs) (messages : (r : Place) (x : Object) → gone r ≡ true → held cs r ≡ Some x → x.thing ≡ Message) where
+  module _ (p : Image) (cs : List Cell) (no_duplicates : NoDuplicates cs) (messages : (r : Place) (x : Object) → gone r ≡ true → held cs r ≡ Some x → x.thing ≡ Message) where
     pub stays_at : (r : Place) (x : Object) → gone r ≡ false → held cs r ≡ Some x → held (dropped cs) r ≡ Some x
     stays_at r x e h = held_dropped cs r ∙ ap (λ b. cond b None (held cs r)) e ∙ h
 
     pub stays_named : (r : Place) (x : Object) → gone r ≡ false → held cs r ≡ Some x → named (dropped cs) x.name ≡ Some x
-    stays_named r x e h = held_lives (dropped cs) r x (tidy_dropped cs tidy) (stays_at r x e h)
+    stays_named r x e h = held_lives (dropped cs) r x (tidy_dropped cs no_duplicates) (stays_at r x e h)
 
     pub stays_same : (r : Place) (x : Object) → gone r ≡ false → held cs r ≡ Some x → SameAtName cs x.name
-    stays_same r x e h = grind (arith, nat_tests, stays_named r x e h, each_name cs tidy x.name)
+    stays_same r x e h = grind (arith, nat_tests, stays_named r x e h, each_name cs no_duplicates x.name)
 
     -- what a service says with its server's kind, where a message's is null
     serves_dropped :
         (n : ℕ) (has : Service → Bool) (kind : Option Object → Kind) → kind None ≡ Null → ((x : Object) → x.thing ≡ Message → kind (Some x) ≡ Null) →
         cond (has (service_of (dropped cs) n)) (kind (named (dropped cs) n)) Null ≡ cond (has (service_of cs n)) (kind (named cs n)) Null
-    serves_dropped n has kind none of_message = grind (arith, nat_tests, none, each_name cs tidy n, cond_same)
+    serves_dropped n has kind none of_message = grind (arith, nat_tests, none, each_name cs no_duplicates n, cond_same)
 
     pub declared_dropped : (r : Place) → declared p (dropped cs) r ≡ declared p cs r
     unfolding sessions_in kind_of
@@ -153,8 +153,8 @@ module _ (gone : Place → Bool) where
         (λ o. filled (message_thing p o) Full) refl (λ x e. ap (λ y. filled (message_thing p (Some (record { name = x.name; thing = y }))) Full) e)
     declared_dropped _ = refl
 
-    pub suits_dropped : (ls : List Layer) → AllSuit p cs ls → AllSuit p (dropped cs) ls
-    suits_dropped ls s o lives = grind (arith, nat_tests, each_name cs tidy o.name)
+    pub conforms_to_dropped : (ls : List Layer) → AllConformTo p cs ls → AllConformTo p (dropped cs) ls
+    conforms_to_dropped ls s o lives = grind (arith, nat_tests, each_name cs no_duplicates o.name)
 
     pub fits_dropped : (r : Place) (k : Kind) → gone r ≡ false → Fits p (seen cs) (held cs r) k → Fits p (seen (dropped cs)) (held (dropped cs) r) k
     fits_dropped r k e f = grind (arith, nat_tests, held_dropped, fits_age, fewer_held, fewer_requested)
@@ -168,25 +168,25 @@ module _ (gone : Place → Bool) where
       below_spared : (r : Place) (ls : List Layer) → IsBelow r ls → gone r ≡ false
       below_spared r ls b = grind arith
 
-      sits_spared : (r : Place) (xs : List Seat) → SitsIn r xs → gone r ≡ false
+      sits_spared : (r : Place) (xs : List OwnedObject) → OwnedWithin r xs → gone r ≡ false
       sits_spared x xs b = grind arith
 
-      housed_dropped : (ls : List Layer) (home : Home) → IsHoused p cs ls home → IsHoused p (dropped cs) ls home
-      housed_dropped ls (Inside o from) h = let e = below_spared from ls h.below in
+      receiver_held_dropped : (ls : List Layer) (receiver : Receiver) → ReceiverIsHeld p cs ls receiver → ReceiverIsHeld p (dropped cs) ls receiver
+      receiver_held_dropped ls (Inside o from) h = let e = below_spared from ls h.below in
           record { there = stays_at from o e h.there; lives = stays_named from o e h.there; below = h.below; ready = h.ready }
-      housed_dropped ls _ h = h
+      receiver_held_dropped ls _ h = h
 
-      all_sit_dropped : (xs : List Seat) → AllSit cs xs → AllSit (dropped cs) xs
+      all_sit_dropped : (xs : List OwnedObject) → IsOwnedChain cs xs → IsOwnedChain (dropped cs) xs
       all_sit_dropped [] s = tt
       all_sit_dropped (x ∷ xs) s = let e = sits_spared x.place xs s.0.2 in
           ((stays_at x.place x.object e s.0.0, stays_named x.place x.object e s.0.0, s.0.2, s.0.3), all_sit_dropped xs s.1)
 
       -- the object that is dispatched stays
-      first_same : (xs : List Seat) (x : Seat) → AllSit cs xs → SitsFirst cs (Some x) xs → SameAtName cs x.object.name
+      first_same : (xs : List OwnedObject) (x : OwnedObject) → IsOwnedChain cs xs → OwnedFirst cs (Some x) xs → SameAtName cs x.object.name
       first_same (y ∷ ys) x s f = grind (arith, nat_tests, stays_same y.place y.object (sits_spared y.place ys s.0.2) s.0.0, sits_spared y.place ys s.0.2)
       first_same [] x s f = cc
 
-      first_dropped : (d : Option Seat) (xs : List Seat) → AllSit cs xs → SitsFirst cs d xs → SitsFirst (dropped cs) d xs
+      first_dropped : (d : Option OwnedObject) (xs : List OwnedObject) → IsOwnedChain cs xs → OwnedFirst cs d xs → OwnedFirst (dropped cs) d xs
       first_dropped None xs s f = f
       first_dropped (Some x) xs s f = (ap is_some (first_same xs x s f).request ∙ f.0, f.1, f.2)
 
@@ -198,21 +198,21 @@ module _ (gone : Place → Bool) where
       sessions_dropped o left h = ⊎_elim
           (λ s. record { server = h.server; lives = s.name ∙ h.lives; listed = λ c e. ap (λ v. has_session v c) s.service ∙ h.listed c e })
           (λ w. let same : w.object ≡ o = same_Some w.object o (sym w.was ∙ h.lives) in absurd (grind (arith, nat_tests, not_message)))
-          (each_name cs tidy o.name)
+          (each_name cs no_duplicates o.name)
 
       pub stack_dropped : (t : Typing) (ls : List Layer) (back : Back) → Stack p t cs back ls → Stack p t (dropped cs) back ls
       stack_dropped t [] back s = s
-      stack_dropped t (Method fr sh ∷ ls) back s = (s.0, s.1, housed_dropped ls fr.home s.2, s.3, stack_dropped t ls _ s.4)
+      stack_dropped t (Method fr sh ∷ ls) back s = (s.0, s.1, receiver_held_dropped ls fr.receiver s.2, s.3, stack_dropped t ls _ s.4)
       stack_dropped t (Mark gv ∷ ls) back s = (s.0, stack_dropped t ls _ s.1)
       stack_dropped t (Dying o ∷ ls) back s = search (arith, nat_tests, stays_named, spared, stays_at, stack_dropped t ls)
       stack_dropped t (Ending o left ∷ ls) back s = (sessions_dropped o left s.0, s.1, s.2, stack_dropped t ls _ s.3)
       stack_dropped t (Unwinding code es ∷ ls) back s = (s.0, stack_dropped t ls _ s.1)
-      stack_dropped t (Dispatching d seats ∷ ls) back s = (
+      stack_dropped t (Dispatching d owned_chain ∷ ls) back s = (
         s.0,
         s.1,
-        all_sit_dropped seats s.2,
-        first_dropped (seat_of d) seats s.2 s.3,
-        attended_at p cs (dropped cs) d (λ y there. (first_same seats y s.2 (subst (λ o. SitsFirst cs o seats) there s.3)).service) s.4,
+        all_sit_dropped owned_chain s.2,
+        first_dropped (owned_object_of d) owned_chain s.2 s.3,
+        attended_at p cs (dropped cs) d (λ y there. (first_same owned_chain y s.2 (subst (λ o. OwnedFirst cs o owned_chain) there s.3)).service) s.4,
       )
 
 -- two of these
@@ -230,6 +230,6 @@ queued_claim p d [] n m = refl
 queued_claim p d (l ∷ ls) n m = queued_claim p d ls n m
 
 -- what waits in a queue is a message
-pub waits_message : (p : Image) (h : Sight) (x : Object) (b : Bool) (o : Option Object) →
+pub waits_message : (p : Image) (h : CellView) (x : Object) (b : Bool) (o : Option Object) →
     Fits p h (Some x) (cond b (filled (message_thing p o) Full) Null) → x.thing ≡ Message
 waits_message p h x y z f = grind arith

@@ -7,8 +7,8 @@ use Rattle.aom_instructions.specs.declared.instr.Instr.{Instr}
 use Rattle.aom_instructions.specs.declared.instr.Instr.TheVariants.{Abort, Ask, Close, Connect, Issue}
 use Rattle.aom_roles.specs.Tests.{AllTrue}
 use Rattle.aom_semantics.specs.Effects.{needs}
-use Rattle.aom_semantics.specs.State.{Choice, Frame, Home, State, Task, word}
-use Rattle.aom_semantics.specs.Wanted.{Exchange, Nothing, An_open, A_start, An_ask, A_cancel, A_close, exchange, wanted_by}
+use Rattle.aom_semantics.specs.State.{Choice, Frame, Receiver, State, Task, word}
+use Rattle.aom_semantics.specs.NativeCall.{Exchange, Nothing, An_open, A_start, An_ask, A_cancel, A_close, exchange, wanted_by}
 
 -- what holds of each instruction that makes a call, and of all that make none, holds of any with its call
 pub by_exchange : (R : Instr → Exchange → Type 0) → ((a : ℕ) → R (Connect a) An_open) → ((a b : ℕ) → R (Issue a b) (A_start a b)) → ((a b x : ℕ) →
@@ -30,5 +30,5 @@ pub has_words : (p : Image) (c : Choice) (fr : Frame) (ts : List Task) (s : Stat
 has_words p c fr ts s = grind (arith, nat_tests, by_exchange)
 
 -- what makes no call wants nothing, wherever it is
-pub none_wanted : (p : Image) (s : State) (fr : Frame) (ts : List Task) (h : Home) → wanted_by s p fr ts h Nothing ≡ None
+pub none_wanted : (p : Image) (s : State) (fr : Frame) (ts : List Task) (h : Receiver) → wanted_by s p fr ts h Nothing ≡ None
 none_wanted p s fr ts x = grind arith

@@ -15,10 +15,10 @@ use Rattle.aom_roles.specs.Classes.{ClassOrdered, OwnsBefore, is_session, is_ses
 use Rattle.aom_roles.specs.Classes.{kind_at, kind_in, sessions_at, sessions_in, sessions_of}
 use Rattle.aom_roles.specs.Families.{descends, parent_of}
 use Rattle.aom_roles.specs.Shapes.{kind_of}
-use Rattle.aom_safety.proofs.ClassesLemmas.{all_there, at_place, child_there}
-use Rattle.aom_classes.specs.Linked.{IsLinked}
-use Rattle.aom_safety.proofs.FamiliesLemmas.{continued, families_inherit, weights_fall}
-use Rattle.aom_families.specs.Weights.{generation}
+use Rattle.aom_safety.proofs.LinkConditionsLemmas.{all_there, at_place, child_there}
+use Rattle.aom_link_conditions.specs.Linked.{IsLinked}
+use Rattle.aom_safety.proofs.InheritanceLemmas.{continued, families_inherit, weights_fall}
+use Rattle.aom_inheritance.specs.Weights.{generation}
 use Rattle.aom_roles.specs.Things.{Member, field_thing, word_count, words_in}
 use Rattle.aom_safety.specs.Laws.{IsFamily}
 

@@ -10,42 +10,42 @@ use Rattle.aom_image.specs.declared.method.Gives.{Gives}
 use Rattle.aom_image.specs.declared.method.Gives.TheVariants.{Maybe as A_maybe, Nothing, Own as An_own}
 use Rattle.aom_image.specs.declared.method.Thing.{Thing}
 use Rattle.aom_image.specs.declared.method.Thing.TheVariants.{Object as An_object_of}
-use Rattle.aom_rules.specs.Calls.{entries_done, fields_done, is_destructor, leaves_one, result_moved, rule_ended, rule_left, rule_result, rule_return}
-use Rattle.aom_shape.specs.Kinds.{is_here, field, filled, is_unowning, no_entry, none_owns}
-use Rattle.aom_shape.specs.Shape.{Shape}
+use Rattle.aom_typing_rules.specs.Calls.{entries_done, fields_done, is_destructor, leaves_one, result_moved, rule_ended, rule_left, rule_result, rule_return}
+use Rattle.aom_abstract_state.specs.Kinds.{is_here, field, filled, is_unowning, no_entry, none_owns}
+use Rattle.aom_abstract_state.specs.AbstractState.{AbstractState}
 use Rattle.aom_roles.specs.Tables.{at}
-use Rattle.aom_roles.specs.Things.{field_thing, holder_of, stands_for}
-use Rattle.aom_rules.specs.Typing.{Typing}
-use Rattle.aom_shape.specs.declared.kind.Age.TheVariants.{Fresh, Ready}
-use Rattle.aom_shape.specs.declared.kind.CleanupEntry.{CleanupEntry}
-use Rattle.aom_shape.specs.declared.kind.CleanupEntry.TheVariants.{Object as Pushed_object, Operation as Pushed_operation}
-use Rattle.aom_shape.specs.declared.kind.Filling.{Filling}
-use Rattle.aom_shape.specs.declared.kind.Filling.TheVariants.{Perhaps}
-use Rattle.aom_shape.specs.declared.kind.Kind.{Kind}
-use Rattle.aom_shape.specs.declared.kind.Kind.TheVariants.{Null, Own, Unset}
+use Rattle.aom_roles.specs.Things.{field_thing, holder_of, is_subtype}
+use Rattle.aom_typing_rules.specs.Typing.{Typing}
+use Rattle.aom_abstract_state.specs.declared.kind.InitState.TheVariants.{Fresh, Ready}
+use Rattle.aom_abstract_state.specs.declared.kind.CleanupEntry.{CleanupEntry}
+use Rattle.aom_abstract_state.specs.declared.kind.CleanupEntry.TheVariants.{Object as Pushed_object, Operation as Pushed_operation}
+use Rattle.aom_abstract_state.specs.declared.kind.FieldState.{FieldState}
+use Rattle.aom_abstract_state.specs.declared.kind.FieldState.TheVariants.{Perhaps}
+use Rattle.aom_abstract_state.specs.declared.kind.Kind.{Kind}
+use Rattle.aom_abstract_state.specs.declared.kind.Kind.TheVariants.{Null, Own, Unset}
 use Rattle.aom_safety.proofs.Claimed.{claim_in_view, claim_register_above}
 use Rattle.aom_safety.proofs.Destroying.{eqb_comm}
 use Rattle.aom_safety.proofs.Items.{length_forms}
-use Rattle.aom_safety.proofs.SemanticsLemmas.{at-put_at, front_free}
+use Rattle.aom_safety.proofs.SemanticsLemmas.{at-set_extending, front_free}
 use Rattle.aom_safety.proofs.Straight.{At, fits_unowning, free_register, top}
 use Rattle.aom_semantics.specs.Calls.{end_needs, is_level, is_register_but, leaves_object, needs_return, none_owns_but, result_needs, result_source, returned}
 use Rattle.aom_safety.specs.Claims.{own_field, serves, delivered, Dispatching, Layer, Method, Object_form, claim}
-use Rattle.aom_safety.specs.Claims.{declared, declared_field, entry_claim, forms, home_claim, items_of, objects, tasks_of}
+use Rattle.aom_safety.specs.Claims.{declared, declared_field, entry_claim, forms, receiver_claim, items_of, objects, tasks_of}
 use Rattle.aom_semantics.specs.Effects.{Returns, applied}
 use Rattle.aom_semantics.specs.Objects.{is_thing}
-use Rattle.aom_semantics.specs.Places.{In_service, Cell, Elsewhere, Entry, Field, Object, Place, Register, Root, Sight, held, requested, same_place, seen}
-use Rattle.aom_semantics.specs.State.{home_holder, An_object, AtRoot, Choice, Frame, Home, Inside, Item, State, Static, thing_holder}
-use Rattle.aom_safety.specs.WellTyped.{InView, CountsAs, Fits, Houses, IsApart, IsHoused, RootUnclaimed, WellTyped, past_going}
-use Rattle.aom_rules.specs.Requests.{unissued}
-use Rattle.aom_shape.specs.Arguments.{after_of}
+use Rattle.aom_semantics.specs.Places.{In_service, Cell, Elsewhere, Entry, Field, Object, Place, Register, Root, CellView, held, requested, same_place, seen}
+use Rattle.aom_semantics.specs.State.{receiver_holder, An_object, AtRoot, Choice, Frame, Receiver, Inside, Item, State, Static, thing_holder}
+use Rattle.aom_safety.specs.WellTyped.{InView, CountsAs, Fits, ReceiverConforms, IsApart, ReceiverIsHeld, RootUnclaimed, WellTyped, past_going}
+use Rattle.aom_typing_rules.specs.Requests.{unissued}
+use Rattle.aom_abstract_state.specs.Arguments.{after_of}
 use Rattle.aom_semantics.specs.Requests.{hangs, own_request, pending, status_of}
 use Rattle.aom_roles.specs.States.{cancel_done}
 use Rattle.std.specs.Ordering.{int_eq}
 use Rattle.aom_roles.specs.Roles.{is_cancel}
 use Rattle.aom_roles.specs.Tests.{AllTrue, only_if}
-use Rattle.aom_safety.specs.Requests.{Known, Suits, known_at, states_claim, thing_kind, works_at}
-use Rattle.aom_safety.proofs.Suiting.{completed}
-use Rattle.aom_shape.specs.declared.kind.Delivery.TheVariants.{Gone}
+use Rattle.aom_safety.specs.Requests.{Known, ConformsTo, known_at, states_claim, thing_kind, works_at}
+use Rattle.aom_safety.proofs.ConformingTo.{completed}
+use Rattle.aom_abstract_state.specs.declared.kind.MessageState.TheVariants.{Gone}
 use Rattle.aom_safety.proofs.RolesLemmas.{stands_along}
 
 pub none_owns_at : (ks : List Kind) (i : ℕ) → none_owns ks ≡ true → is_unowning (at Unset ks i) ≡ true
@@ -92,34 +92,34 @@ none_owns_from (c ∷ cs) d spared h = and_from _ _ (go spared c.owner h) (none_
     go _ _ h = refl
 
 -- what holds of a field holds when nothing is known of it
-pub perhaps_fits : (p : Image) (h : Sight) (o : Option Object) (x : Option Thing) (y : Filling) → Fits p h o (filled x y) → Fits p h o (filled x Perhaps)
+pub perhaps_fits : (p : Image) (h : CellView) (o : Option Object) (x : Option Thing) (y : FieldState) → Fits p h o (filled x y) → Fits p h o (filled x Perhaps)
 perhaps_fits p h o x y g = grind (arith, nat_tests, fits_unowning p h o Null)
 
 pub claim_root : (p : Image) (d : Place → Kind) (ls : List Layer) → RootUnclaimed ls → claim p d ls (Elsewhere Root) ≡ d (Elsewhere Root)
 claim_root p d [] u = refl
 claim_root p d (Method fr sh ∷ ls) u = grind (arith, nat_tests, claim_root p d ls u.1)
-claim_root p d (Dispatching x seats ∷ ls) u = ap (λ b. cond b Null (claim p d ls (Elsewhere Root))) u.0 ∙ claim_root p d ls u.1
+claim_root p d (Dispatching x owned_chain ∷ ls) u = ap (λ b. cond b Null (claim p d ls (Elsewhere Root))) u.0 ∙ claim_root p d ls u.1
 claim_root p d (_ ∷ ls) u = claim_root p d ls u
 
 -- a method ends
-pub ended : (p : Image) (cs : List Cell) (fr : Frame) (sh : Shape) (ls : List Layer) →
-    Houses p (home_holder fr.home) (holder_of p fr.method) → CountsAs p (home_holder fr.home) fr.view (holder_of p fr.method) →
-    IsHoused p cs ls fr.home → IsApart p fr.view fr.method fr.home ls → past_going ls ≡ ls → no_entry sh.entries ≡ true →
-    none_owns sh.registers ≡ true → (serves p fr.method ≡ true → claim p (declared p cs) ls (Elsewhere In_service) ≡ delivered sh.delivery) →
-    (r : Place) (h : Sight) (o : Option Object) → Fits p h o (claim p (declared p cs) (Method fr sh ∷ ls) r) → Fits p h o (claim p (declared p cs) ls r)
-ended p cs fr sh ls houses counts housed apart at_top e n message (Register f i) h o fits =
+pub ended : (p : Image) (cs : List Cell) (fr : Frame) (sh : AbstractState) (ls : List Layer) →
+    ReceiverConforms p (receiver_holder fr.receiver) (holder_of p fr.method) → CountsAs p (receiver_holder fr.receiver) fr.view (holder_of p fr.method) →
+    ReceiverIsHeld p cs ls fr.receiver → IsApart p fr.view fr.method fr.receiver ls → past_going ls ≡ ls → no_entry sh.entries ≡ true →
+    none_owns sh.registers ≡ true → (serves p fr.method ≡ true → claim p (declared p cs) ls (Elsewhere In_service) ≡ delivered sh.message_state) →
+    (r : Place) (h : CellView) (o : Option Object) → Fits p h o (claim p (declared p cs) (Method fr sh ∷ ls) r) → Fits p h o (claim p (declared p cs) ls r)
+ended p cs fr sh ls receiver_conforms counts receiver_held apart at_top e n message (Register f i) h o fits =
     grind (arith, nat_tests, claim_register_above p cs ls f i, eqb-true, fits_unowning p h o, none_owns_at sh.registers i n)
-ended p cs fr sh ls houses counts housed apart at_top e n message (Entry k) h o fits = grind (arith, nat_tests, no_entries)
-ended p cs fr sh ls houses counts housed apart at_top e n message (Field m f) h o fits = go fr.home houses housed apart fits
+ended p cs fr sh ls receiver_conforms counts receiver_held apart at_top e n message (Entry k) h o fits = grind (arith, nat_tests, no_entries)
+ended p cs fr sh ls receiver_conforms counts receiver_held apart at_top e n message (Field m f) h o fits = go fr.receiver receiver_conforms receiver_held apart fits
   where
     own : Option Thing
     own = field_thing p (holder_of p fr.method) f
 
-    go : (home : Home) → Houses p (home_holder home) (holder_of p fr.method) → IsHoused p cs ls home → IsApart p fr.view fr.method home ls → Fits p h o
-        (home_claim p (holder_of p fr.method) home sh m f (claim p (declared p cs) ls (Field m f))) → Fits p h o (claim p (declared p cs) ls (Field m f))
-    go Static houses hs ap' fits = fits
-    go AtRoot houses hs ap' fits = fits
-    go (Inside x from) houses hs ap' fits = cases (x.name == m) refl own refl fits
+    go : (receiver : Receiver) → ReceiverConforms p (receiver_holder receiver) (holder_of p fr.method) → ReceiverIsHeld p cs ls receiver → IsApart p fr.view fr.method receiver ls → Fits p h o
+        (receiver_claim p (holder_of p fr.method) receiver sh m f (claim p (declared p cs) ls (Field m f))) → Fits p h o (claim p (declared p cs) ls (Field m f))
+    go Static receiver_conforms hs ap' fits = fits
+    go AtRoot receiver_conforms hs ap' fits = fits
+    go (Inside x from) receiver_conforms hs ap' fits = cases (x.name == m) refl own refl fits
       where
         cases : (b : Bool) → (x.name == m) ≡ b → (y : Option Thing) →
             own ≡ y → Fits p h o (cond b (own_field y (field sh f) (claim p (declared p cs) ls (Field m f))) (claim p (declared p cs) ls (Field m f))) →
@@ -131,19 +131,19 @@ ended p cs fr sh ls houses counts housed apart at_top e n message (Field m f) h 
             let viewed = subst (λ l. InView p fr.view (λ f. filled (field_thing p (thing_holder x.thing) f) Perhaps) x.name l) at_top ap'.2.0 in
             let claims = claim_in_view p (declared p cs) ls x.name f (λ f. filled (field_thing p (thing_holder x.thing) f) Perhaps) fr.view viewed
             (ap is_some (counts.fields f y is)) (ap (λ y. declared_field p y f) hs.lives) in
-            subst (λ k. Fits p h o k) (sym (ap (λ z. filled z Perhaps) (houses.fields f y is))
+            subst (λ k. Fits p h o k) (sym (ap (λ z. filled z Perhaps) (receiver_conforms.fields f y is))
             ∙ sym claims ∙ ap (λ y. claim p (declared p cs) ls (Field y f)) same) (perhaps_fits p h o (Some y) (field sh f) fits)
-ended p cs fr sh ls houses counts housed apart at_top e n message (Elsewhere Root) h o fits = grind (arith, nat_tests, claim_root p, perhaps_fits p h o)
-ended p cs fr sh ls houses counts housed apart at_top e n message (Elsewhere In_service) h o fits = go (serves p fr.method) refl fits
+ended p cs fr sh ls receiver_conforms counts receiver_held apart at_top e n message (Elsewhere Root) h o fits = grind (arith, nat_tests, claim_root p, perhaps_fits p h o)
+ended p cs fr sh ls receiver_conforms counts receiver_held apart at_top e n message (Elsewhere In_service) h o fits = go (serves p fr.method) refl fits
   where
-    go : (b : Bool) → serves p fr.method ≡ b → Fits p h o (cond b (delivered sh.delivery) (claim p (declared p cs) ls (Elsewhere In_service))) →
+    go : (b : Bool) → serves p fr.method ≡ b → Fits p h o (cond b (delivered sh.message_state) (claim p (declared p cs) ls (Elsewhere In_service))) →
         Fits p h o (claim p (declared p cs) ls (Elsewhere In_service))
     go true serving fits = subst (λ k. Fits p h o k) (sym (message serving)) fits
     go false plain fits = fits
-ended p cs fr sh ls houses counts housed apart at_top e n message _ h o fits = fits
+ended p cs fr sh ls receiver_conforms counts receiver_held apart at_top e n message _ h o fits = fits
 
 -- what the rule says of a return
-pub record Returnable (p : Image) (fr : Frame) (sh : Shape) (a : ℕ) : Type 0 where
+pub record Returnable (p : Image) (fr : Frame) (sh : AbstractState) (a : ℕ) : Type 0 where
   pub result : AllTrue (rule_result p fr.method fr.place sh (gives_of p fr.method) a)
   pub entries : entries_done p (gives_of p fr.method) sh.entries ≡ true
   pub free : none_owns (result_moved p fr.method fr.place sh (gives_of p fr.method) a).registers ≡ true
@@ -151,9 +151,9 @@ pub record Returnable (p : Image) (fr : Frame) (sh : Shape) (a : ℕ) : Type 0 w
   pub settled : unissued sh.states ≡ true
   pub cancels : only_if (is_cancel (method_role p fr.method)) (has cancel_done sh.states) ≡ true
   pub ends : IsTrue (has (after_of p fr.method) sh.states)
-  pub message : only_if (serves p fr.method) (not (is_here sh.delivery)) ≡ true
+  pub message : only_if (serves p fr.method) (not (is_here sh.message_state)) ≡ true
 
-pub returnable : (p : Image) (fr : Frame) (sh : Shape) (a : ℕ) → AllTrue (rule_return p fr.method fr.place sh a) → Returnable p fr sh a
+pub returnable : (p : Image) (fr : Frame) (sh : AbstractState) (a : ℕ) → AllTrue (rule_return p fr.method fr.place sh a) → Returnable p fr sh a
 returnable p fr sh a n = let parts =
     all_parts (rule_result p fr.method fr.place sh (gives_of p fr.method) a) (rule_left p fr.method fr.place sh a ++ rule_ended p fr.method fr.place sh) n in
     let left = all_parts (rule_left p fr.method fr.place sh a) (rule_ended p fr.method fr.place sh) parts.1 in
@@ -165,41 +165,41 @@ IsReturned p t s fr ls a =
     AllTrue (needs_return p fr (tasks_of ls) s a) × WellTyped p t (applied p fr (tasks_of ls) s (Returns (gives_of p fr.method) a))
 
 -- what each layer has to give to which a method may return
-abbrev pub ReturnLaw : Image → Typing → State → Frame → Shape → List Layer → ℕ → Type 0
+abbrev pub ReturnLaw : Image → Typing → State → Frame → AbstractState → List Layer → ℕ → Type 0
 ReturnLaw p t s fr sh ls a = Returnable p fr sh a → IsReturned p t s fr ls a
 
 -- a method that served has taken its message
-pub message_gone : (p : Image) (fr : Frame) (sh : Shape) (a : ℕ) → Returnable p fr sh a → serves p fr.method ≡ true → sh.delivery ≡ Gone
+pub message_gone : (p : Image) (fr : Frame) (sh : AbstractState) (a : ℕ) → Returnable p fr sh a → serves p fr.method ≡ true → sh.message_state ≡ Gone
 message_gone p fr sh a r serving = grind (arith, nat_tests)
 
 -- a method that gives nothing leaves no entry
-pub none_left : (p : Image) (fr : Frame) (sh : Shape) (a : ℕ) → gives_of p fr.method ≡ Nothing → Returnable p fr sh a → no_entry sh.entries ≡ true
+pub none_left : (p : Image) (fr : Frame) (sh : AbstractState) (a : ℕ) → gives_of p fr.method ≡ Nothing → Returnable p fr sh a → no_entry sh.entries ≡ true
 none_left p fr sh a nothing r = ap (λ g. entries_done p g sh.entries) (sym nothing) ∙ r.entries
 
 -- one that leaves an object leaves it alone, or one that stands for it
 pub record LeftAlone (p : Image) (x : ℕ) (es : List CleanupEntry) : Type 0 where
   pub class : ℕ
   pub alone : es ≡ Pushed_object class Ready ∷ []
-  pub stands : stands_for p (An_object_of class) (An_object_of x) ≡ true
+  pub stands : is_subtype p (An_object_of class) (An_object_of x) ≡ true
 
 pub left_alone : (p : Image) (x : ℕ) (es : List CleanupEntry) → leaves_one p x es ≡ true → LeftAlone p x es
 left_alone p x [] e = cc
 left_alone p x (Pushed_operation ∷ es) e = cc
 left_alone p x (Pushed_object c Fresh ∷ es) e = grind (arith, nat_tests)
-left_alone p x (Pushed_object c Ready ∷ []) e = record { class = c; alone = refl; stands = first (stands_for p (An_object_of c) (An_object_of x)) true e }
+left_alone p x (Pushed_object c Ready ∷ []) e = record { class = c; alone = refl; stands = first (is_subtype p (An_object_of c) (An_object_of x)) true e }
   where
     first : (a b : Bool) → (a && b) ≡ true → a ≡ true
     first y b z = grind arith
 left_alone p x (Pushed_object c Ready ∷ f ∷ es) e = grind (arith, nat_tests)
 
-module _ (p : Image) (t : Typing) (c : Choice) (s : State) (fr : Frame) (sh : Shape) (ls : List Layer) (at_hand : At p t s fr sh ls) where
+module _ (p : Image) (t : Typing) (c : Choice) (s : State) (fr : Frame) (sh : AbstractState) (ls : List Layer) (has_task : At p t s fr sh ls) where
   -- the cleanup stack is as it was
   pub same_items : no_entry sh.entries ≡ true → forms s.items ≡ items_of ls
-  same_items e = at_hand.items ∙ ap (λ es. objects es (items_of ls)) (no_entries sh.entries e)
+  same_items e = has_task.items ∙ ap (λ es. objects es (items_of ls)) (no_entries sh.entries e)
 
   -- the object that is left is owned by the last entry
   pub left_held : (x : ℕ) → leaves_one p x sh.entries ≡ true → Fits p (seen s.cells) (held s.cells (Entry (length (items_of ls)))) (Own (An_object_of x) Ready)
-  left_held x e = taken (held s.cells (Entry (length (items_of ls)))) (rw claims at (at_hand.good.fits (Entry (length (items_of ls)))))
+  left_held x e = taken (held s.cells (Entry (length (items_of ls)))) (rw claims at (has_task.good.fits (Entry (length (items_of ls)))))
     where
       w : LeftAlone p x sh.entries
       w = left_alone p x sh.entries e
@@ -217,7 +217,7 @@ module _ (p : Image) (t : Typing) (c : Choice) (s : State) (fr : Frame) (sh : Sh
 
   -- or one object lies there too
   one_left : (x : ℕ) → leaves_one p x sh.entries ≡ true → leaves_object p fr (tasks_of ls) s x s.items ≡ true
-  one_left x e = go s.items (at_hand.items ∙ ap (λ es. objects es (items_of ls)) (left_alone p x sh.entries e).alone)
+  one_left x e = go s.items (has_task.items ∙ ap (λ es. objects es (items_of ls)) (left_alone p x sh.entries e).alone)
     where
       there : (o : Option Object) → Fits p (seen s.cells) o (Own (An_object_of x) Ready) → (is_some o && is_thing p (An_object_of x) o) ≡ true
       there x f = grind arith
@@ -228,7 +228,7 @@ module _ (p : Image) (t : Typing) (c : Choice) (s : State) (fr : Frame) (sh : Sh
           let high : length items ≡ length (items_of ls) = sym (length_forms items) ∙ ap length same in
           let place : Place = Entry (length items) in
           and_from (length items == fr.height) (is_some (held s.cells place) && is_thing p (An_object_of x) (held s.cells place))
-          (eq-eqb _ _ (high ∙ sym at_hand.good.stack.1.height))
+          (eq-eqb _ _ (high ∙ sym has_task.good.stack.1.height))
           (there (held s.cells place) (subst (λ n. Fits p (seen s.cells) (held s.cells (Entry n)) (Own (An_object_of x) Ready)) (sym high) (left_held x e)))
       go _ f = cc
 
@@ -236,34 +236,34 @@ module _ (p : Image) (t : Typing) (c : Choice) (s : State) (fr : Frame) (sh : Sh
   level : (g : Gives) → entries_done p g sh.entries ≡ true → is_level p fr (tasks_of ls) s g ≡ true
   level x e = grind (arith, nat_tests, one_left, eq-eqb, length_forms, same_items)
 
-module _ (p : Image) (t : Typing) (c : Choice) (s : State) (fr : Frame) (sh : Shape) (ls : List Layer) (at_hand : At p t s fr sh ls) (a : ℕ)
+module _ (p : Image) (t : Typing) (c : Choice) (s : State) (fr : Frame) (sh : AbstractState) (ls : List Layer) (has_task : At p t s fr sh ls) (a : ℕ)
     (r : Returnable p fr sh a) where
   spared : (g : Gives) → none_owns (result_moved p fr.method fr.place sh g a).registers ≡ true → (i : ℕ) → spares (result_source g a) i ≡ false →
       held s.cells (top ls i) ≡ None
   spared (An_own x) n i other =
-      grind (arith, nat_tests, free_register p t c s fr sh ls at_hand i, at-put_at Unset sh.registers a i Null, eqb_comm a i, none_owns_at)
+      grind (arith, nat_tests, free_register p t c s fr sh ls has_task i, at-set_extending Unset sh.registers a i Null, eqb_comm a i, none_owns_at)
   spared (A_maybe x) n i other =
-      grind (arith, nat_tests, free_register p t c s fr sh ls at_hand i, at-put_at Unset sh.registers a i Null, eqb_comm a i, none_owns_at)
-  spared _ n i other = free_register p t c s fr sh ls at_hand i (none_owns_at sh.registers i n)
+      grind (arith, nat_tests, free_register p t c s fr sh ls has_task i, at-set_extending Unset sh.registers a i Null, eqb_comm a i, none_owns_at)
+  spared _ n i other = free_register p t c s fr sh ls has_task i (none_owns_at sh.registers i n)
 
   -- a method that cancels does not hang
   answered : not (hangs p fr (tasks_of ls) s) ≡ true
   answered = go (is_cancel (method_role p fr.method)) refl
     where
-      own : (home : Home) → fr.home ≡ home → IsTrue (has cancel_done sh.states) → int_eq (status_of (own_request s.cells home)) pending ≡ false
+      own : (receiver : Receiver) → fr.receiver ≡ receiver → IsTrue (has cancel_done sh.states) → int_eq (status_of (own_request s.cells receiver)) pending ≡ false
       own Static e h = refl
       own AtRoot e h = refl
       own (Inside o from) e h =
-          let holds : IsHoused p s.cells ls (Inside o from) = subst (λ h. IsHoused p s.cells ls h) e at_hand.good.stack.2 in
+          let holds : ReceiverIsHeld p s.cells ls (Inside o from) = subst (λ h. ReceiverIsHeld p s.cells ls h) e has_task.good.stack.2 in
           let below : Known = states_claim p o ls in
-          let here = subst (λ h. Suits (thing_kind p o.thing) (cond (works_at o.name h) (known_at p fr sh.states below) below) (requested s.cells o.name)) e
-          (at_hand.good.suits o holds.lives) in
+          let here = subst (λ h. ConformsTo (thing_kind p o.thing) (cond (works_at o.name h) (known_at p fr sh.states below) below) (requested s.cells o.name)) e
+          (has_task.good.conforms_to o holds.lives) in
           completed (thing_kind p o.thing) (known_at p fr sh.states below) (requested s.cells o.name) h
-          (subst (λ b. Suits (thing_kind p o.thing) (cond b (known_at p fr sh.states below) below) (requested s.cells o.name)) (eq-eqb o.name o.name refl) here)
+          (subst (λ b. ConformsTo (thing_kind p o.thing) (cond b (known_at p fr sh.states below) below) (requested s.cells o.name)) (eq-eqb o.name o.name refl) here)
 
-      go : (b : Bool) → is_cancel (method_role p fr.method) ≡ b → not (b && int_eq (status_of (own_request s.cells fr.home)) pending) ≡ true
+      go : (b : Bool) → is_cancel (method_role p fr.method) ≡ b → not (b && int_eq (status_of (own_request s.cells fr.receiver)) pending) ≡ true
       go false e = refl
-      go true e = ap not (own fr.home refl (ap (λ b. only_if b (has cancel_done sh.states)) (sym e) ∙ r.cancels))
+      go true e = ap not (own fr.receiver refl (ap (λ b. only_if b (has cancel_done sh.states)) (sym e) ∙ r.cancels))
 
   -- the state after a return, with these cells as it begins
   abbrev pub after_return : List Cell → State
@@ -276,4 +276,4 @@ module _ (p : Image) (t : Typing) (c : Choice) (s : State) (fr : Frame) (sh : Sh
   -- the needs of a return, from those of its result and of what it returns to
   pub return_needs : AllTrue (result_needs p fr (tasks_of ls) s (gives_of p fr.method) a) → AllTrue (end_needs p fr (tasks_of ls) s (tasks_of ls)) →
       AllTrue (needs_return p fr (tasks_of ls) s a)
-  return_needs result end = grind (arith, nat_tests, all_join, result, level p t c s fr sh ls at_hand, none_owns_from s.cells, spared, answered)
+  return_needs result end = grind (arith, nat_tests, all_join, result, level p t c s fr sh ls has_task, none_owns_from s.cells, spared, answered)

@@ -10,18 +10,18 @@ use Rattle.aom_instructions.specs.Fits.{InstrFits}
 use Rattle.aom_instructions.specs.Table.{action_of, transfer_of}
 use Rattle.aom_instructions.specs.declared.action.Action.{Action}
 use Rattle.aom_instructions.specs.declared.action.Action.TheVariants.{Call, Push, PushOperation}
-use Rattle.aom_instructions.specs.declared.action.Manner.TheVariants.{Plain, Trapped}
+use Rattle.aom_instructions.specs.declared.action.CallMode.TheVariants.{Plain, Trapped}
 use Rattle.aom_instructions.specs.declared.instr.Instr.{Instr}
 use Rattle.aom_instructions.specs.declared.instr.Instr.TheVariants.{Xor}
 use Rattle.aom_instructions.specs.declared.instr.Target.{Target}
 use Rattle.aom_instructions.specs.declared.limits.Limits.{Limits}
 use Rattle.aom_instructions.specs.declared.transfer.Transfer.TheVariants.{Begin}
 use Rattle.aom_roles.specs.Tests.{AllTrue}
-use Rattle.aom_classes.specs.Jumps.{jump_of}
-use Rattle.aom_classes.specs.Loops.{loop_in}
+use Rattle.aom_link_conditions.specs.Jumps.{jump_of}
+use Rattle.aom_link_conditions.specs.Loops.{loop_in}
 use Rattle.aom_safety.proofs.Finishing.{all_parts}
 use Rattle.aom_semantics.specs.Calls.{below_top, needs_entering, result_register}
-use Rattle.aom_semantics.specs.Cleanup.{has_trap, leave_needs, no_memory, tops_operation}
+use Rattle.aom_semantics.specs.Cleanup.{has_trap, leave_needs, no_memory, top_matches_operation}
 use Rattle.aom_semantics.specs.Effects.{Calls, Cancels, Carried, Counts, Destroys, Destroys_last, Effect, Goes_on, In_register}
 use Rattle.aom_semantics.specs.Effects.{Leaves, Handed, Made, Operates, Popped, Pushed, Pushed_operation, Same, Sets_trap, Spot, Update}
 use Rattle.aom_semantics.specs.Effects.{effect, updates}
@@ -37,7 +37,7 @@ read_word : (o : Option ℤ) → is_some o ≡ true → o ≡ Some (word_or_zero
 read_word x e = grind arith
 
 -- the last item, by what is asked of it
-operation_on_top : (items : List Item) → tops_operation items ≡ true → (m : ℕ) × (w : ℤ) × (items ≡ An_operation m w ∷ below_top items)
+operation_on_top : (items : List Item) → top_matches_operation items ≡ true → (m : ℕ) × (w : ℤ) × (items ≡ An_operation m w ∷ below_top items)
 operation_on_top (An_operation m w ∷ items) e = (m, w, refl)
 operation_on_top _ e = cc
 

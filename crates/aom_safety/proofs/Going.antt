@@ -5,11 +5,11 @@ use Rattle.std.proofs.Common.{Bool, List, None, Option, Some, [], ap, arith, con
 use Rattle.std.proofs.lemmas.Bool.{and_from, eq-eqb, eqb-true, ne_eqb, true≢false}
 use Rattle.std.specs.Prelude.{not}
 use Rattle.aom_image.specs.Image.{Image}
-use Rattle.aom_rules.specs.Typing.{Typing}
-use Rattle.aom_shape.specs.declared.kind.Kind.TheVariants.{Null}
+use Rattle.aom_typing_rules.specs.Typing.{Typing}
+use Rattle.aom_abstract_state.specs.declared.kind.Kind.TheVariants.{Null}
 use Rattle.std.specs.Prelude.{is_some}
-use Rattle.aom_safety.proofs.Seats.{NoFieldHere, first_kept, sits_kept}
-use Rattle.aom_safety.proofs.Claimed.{no_seat_outside, Outside, claim_frame, claim_going_above, claim_rel, claim_unclaimed}
+use Rattle.aom_safety.proofs.OwnedObjects.{NoFieldHere, first_kept, sits_kept}
+use Rattle.aom_safety.proofs.Claimed.{no_owned_object_outside, Outside, claim_frame, claim_going_above, claim_rel, claim_unclaimed}
 use Rattle.aom_safety.proofs.Claimed.{fits_age, going_differs, outside_differs, outside_less}
 use Rattle.aom_safety.proofs.Destroying.{eqb_comm, Untouched, other_name, untouched}
 use Rattle.aom_safety.proofs.Emptied.{emptied_by}
@@ -20,22 +20,22 @@ use Rattle.aom_safety.specs.Claims.{Ending, Dispatching, Dying, Layer, Mark, Met
 use Rattle.aom_safety.specs.Claims.{declared, declared_field, forms, items_of, objects, tasks_of}
 use Rattle.aom_semantics.specs.Destruction.{needs_past, owns_none_past, is_past, gone, is_at_rest, is_field_of, owns_nothing}
 use Rattle.aom_semantics.specs.Places.{Session, Queued, service_of, Cell, Elsewhere, Field, Going, Object, Place}
-use Rattle.aom_semantics.specs.Places.{Request, Tidy, held, named, requested, same_place, seen, without}
-use Rattle.aom_semantics.specs.State.{Of_server, Parts, Home, Of_root, State, next, resumed}
-use Rattle.aom_safety.specs.WellTyped.{IsOverDying, SitsFirst, seat_of, AllUndo, Back, Caught, Fits, Gone}
-use Rattle.aom_safety.specs.WellTyped.{Good, Holds, IsHoused, Keeps, Leaves, Now, Returns, Stack, WellTyped}
-use Rattle.aom_safety.specs.Requests.{AllSuit, Suits, resting_in, states_claim, thing_kind}
+use Rattle.aom_semantics.specs.Places.{Request, NoDuplicates, held, named, requested, same_place, seen, without}
+use Rattle.aom_semantics.specs.State.{Of_server, Disconnects, Receiver, Of_root, State, next, resumed}
+use Rattle.aom_safety.specs.WellTyped.{IsOverDying, OwnedFirst, owned_object_of, AllUndo, Back, Caught, Fits, Gone}
+use Rattle.aom_safety.specs.WellTyped.{Good, Holds, ReceiverIsHeld, PreservesTyping, Leaves, Now, Returns, Stack, WellTyped}
+use Rattle.aom_safety.specs.Requests.{AllConformTo, ConformsTo, resting_in, states_claim, thing_kind}
 use Rattle.aom_roles.specs.States.{last_of}
 use Rattle.aom_image.specs.declared.class.ClassKind.{ClassKind}
 use Rattle.aom_semantics.specs.Servers.{has_session, has_message, session_thing, message_thing, is_queue_of, without_queue}
-use Rattle.aom_semantics.specs.Clients.{each_unslotted, queue_ended, sessions_ended}
+use Rattle.aom_semantics.specs.Clients.{each_slot_released, queue_ended, sessions_ended}
 use Rattle.aom_safety.proofs.Dropping.{dropped, held_dropped, queue_dropped, queued_claim, waits_message, is_sent, stack_dropped}
-use Rattle.aom_safety.proofs.Dropping.{tidy_dropped, fits_dropped, declared_dropped, suits_dropped, stays_same}
-use Rattle.aom_safety.proofs.Unslotting.{each_unslotted_alike, each_unslotted_requests}
+use Rattle.aom_safety.proofs.Dropping.{tidy_dropped, fits_dropped, declared_dropped, conforms_to_dropped, stays_same}
+use Rattle.aom_safety.proofs.SlotRelease.{each_slot_released_alike, each_slot_released_requests}
 use Rattle.aom_safety.proofs.Storing.{stack_alike, fits_alike}
 use Rattle.aom_safety.proofs.Services.{attended_at, service_without, sits_there}
-use Rattle.aom_shape.specs.Kinds.{filled}
-use Rattle.aom_shape.specs.declared.kind.Filling.TheVariants.{Full}
+use Rattle.aom_abstract_state.specs.Kinds.{filled}
+use Rattle.aom_abstract_state.specs.declared.kind.FieldState.TheVariants.{Full}
 use Rattle.aom_image.specs.declared.method.Thing.TheVariants.{Message}
 use Rattle.aom_roles.specs.Things.{is_object}
 use Rattle.aom_roles.specs.Tests.{AllTrue}
@@ -53,18 +53,18 @@ none_past k such (c ∷ cs) n h = grind (arith, nat_tests, and_from, none_past k
 pub past_by : (k : ℕ) (cs : List Cell) (n : ℕ) → ((r : Place) → is_past k n r ≡ true → held cs r ≡ None) → AllTrue (needs_past k cs n)
 past_by k cs n h = (none_past k is_object cs n h, (none_past k (λ t. not (is_object t)) cs n h, tt))
 
-module _ (p : Image) (t : Typing) (cs : List Cell) (g : Place) (o : Object) (tidy : Tidy cs) (there : held cs g ≡ Some o) where
+module _ (p : Image) (t : Typing) (cs : List Cell) (g : Place) (o : Object) (no_duplicates : NoDuplicates cs) (there : held cs g ≡ Some o) where
   holds_without : (ls : List Layer) (x : Object) (from : Place) → same_place g from ≡ false → Holds p cs ls x from → Holds p (without g cs) ls x from
   holds_without ls x from e h = record {
     there = held_without cs g from ∙ ap (λ b. cond b None (held cs from)) e ∙ h.there;
-    lives = named_without cs g o x.name tidy there (grind (arith, nat_tests, ne_eqb, eq-eqb, other_name)) ∙ h.lives;
+    lives = named_without cs g o x.name no_duplicates there (grind (arith, nat_tests, ne_eqb, eq-eqb, other_name)) ∙ h.lives;
     below = h.below;
     ready = h.ready;
   }
 
-  pub housed_without : (ls : List Layer) (home : Home) → Outside g ls → ((from : Place) → NoFieldHere g from) → IsHoused p cs ls home →
-      IsHoused p (without g cs) ls home
-  housed_without ls x out plain h = grind (arith, nat_tests, holds_without, outside_differs)
+  pub receiver_held_without : (ls : List Layer) (receiver : Receiver) → Outside g ls → ((from : Place) → NoFieldHere g from) → ReceiverIsHeld p cs ls receiver →
+      ReceiverIsHeld p (without g cs) ls receiver
+  receiver_held_without ls x out plain h = grind (arith, nat_tests, holds_without, outside_differs)
 
   -- the server that goes above a layer is another cell
   ending_other : (x : Object) (ls : List Layer) → Outside g ls → IsOverDying x ls → Stack p t cs Now ls → (o.name == x.name) ≡ false
@@ -74,31 +74,31 @@ module _ (p : Image) (t : Typing) (cs : List Cell) (g : Place) (o : Object) (tid
       Stack p t (without g cs) back ls
   stack_without [] back out plain s = s
   stack_without (Method fr sh ∷ ls) back out plain s =
-      grind (arith, nat_tests, outside_less g (Method fr sh) ls out, housed_without ls fr.home, stack_without ls (Returns fr.method fr.home))
+      grind (arith, nat_tests, outside_less g (Method fr sh) ls out, receiver_held_without ls fr.receiver, stack_without ls (Returns fr.method fr.receiver))
   stack_without (Mark gv ∷ ls) back out plain s = (s.0, stack_without ls (Caught gv) (outside_less g (Mark gv) ls out) plain s.1)
-  stack_without (Dispatching d seats ∷ ls) back out plain s =
-      let none = no_seat_outside g d seats ls out in (
+  stack_without (Dispatching d owned_chain ∷ ls) back out plain s =
+      let none = no_owned_object_outside g d owned_chain ls out in (
         s.0,
         s.1,
-        sits_kept cs (without g cs) g g seats (λ r x other other' there lives. (
+        sits_kept cs (without g cs) g g owned_chain (λ r x other other' there lives. (
           held_without cs g r ∙ ap (λ b. cond b None (held cs r)) other ∙ there,
-          named_without cs g o x.name tidy there_it (another r x other there) ∙ lives,
+          named_without cs g o x.name no_duplicates there_it (another r x other there) ∙ lives,
         )) none none s.2,
-        first_kept cs (without g cs) g (seat_of d) seats
-            (λ r x other there lives some. ap is_some (requested_without cs g o x.name tidy there_it (another r x other there)) ∙ some) none s.2 s.3,
+        first_kept cs (without g cs) g (owned_object_of d) owned_chain
+            (λ r x other there lives some. ap is_some (requested_without cs g o x.name no_duplicates there_it (another r x other there)) ∙ some) none s.2 s.3,
         attended_at p cs (without g cs) d (λ y first.
-            let f = subst (λ o. SitsFirst cs o seats) first s.3 in
-            service_without cs g o y.object.name tidy there_it (another y.place y.object (grind arith) (sits_there cs seats y s.2 f).0)) s.4,
+            let f = subst (λ o. OwnedFirst cs o owned_chain) first s.3 in
+            service_without cs g o y.object.name no_duplicates there_it (another y.place y.object (grind arith) (sits_there cs owned_chain y s.2 f).0)) s.4,
       )
     where
       there_it : held cs g ≡ Some o
       there_it = there
 
       another : (r : Place) (x : Object) → same_place g r ≡ false → held cs r ≡ Some x → (o.name == x.name) ≡ false
-      another r x other h = ne_eqb o.name x.name (λ same. true≢false (sym (eq-eqb x.name o.name (sym same)) ∙ other_name p t cs g o tidy there_it r x h other))
+      another r x other h = ne_eqb o.name x.name (λ same. true≢false (sym (eq-eqb x.name o.name (sym same)) ∙ other_name p t cs g o no_duplicates there_it r x h other))
   stack_without (Ending x left ∷ ls) back out plain s =
       let other = ending_other x ls (outside_less g (Ending x left) ls out) s.2 s.3 in (
-        record { server = s.0.server; lives = named_without cs g o x.name tidy there other ∙ s.0.lives; listed = grind (arith, nat_tests, service_without) },
+        record { server = s.0.server; lives = named_without cs g o x.name no_duplicates there other ∙ s.0.lives; listed = grind (arith, nat_tests, service_without) },
         s.1,
         s.2,
         stack_without ls Now (outside_less g (Ending x left) ls out) plain s.3,
@@ -110,10 +110,10 @@ module _ (p : Image) (t : Typing) (cs : List Cell) (g : Place) (o : Object) (tid
         grind (
           arith,
           nat_tests,
-          named_without cs g o x.name tidy there,
+          named_without cs g o x.name no_duplicates there,
           ne_eqb o.name x.name,
           eq-eqb x.name o.name,
-          other_name p t cs g o tidy there q x s.0.1 e,
+          other_name p t cs g o no_duplicates there q x s.0.1 e,
           held_without cs g q,
         ),
         s.1,
@@ -130,7 +130,7 @@ module _ (p : Image) (t : Typing) (cs : List Cell) (o : Object) (ls : List Layer
 
 -- once nothing waits in its queue
 module _ (p : Image) (t : Typing) (cs : List Cell) (o : Object) (ls : List Layer)
-    (stack : Stack p t cs Now (Dying o ∷ ls)) (tidy : Tidy cs) (suits : AllSuit p cs (Dying o ∷ ls)) (fits : (r : Place) → is_queue_of o.name r ≡ false →
+    (stack : Stack p t cs Now (Dying o ∷ ls)) (no_duplicates : NoDuplicates cs) (conforms_to : AllConformTo p cs (Dying o ∷ ls)) (fits : (r : Place) → is_queue_of o.name r ≡ false →
     Fits p (seen cs) (held cs r) (claim p (declared p cs) (Dying o ∷ ls) r)) (unqueued : (m : ℕ) → held cs (Elsewhere (Queued o.name m)) ≡ None) where
   fits_after : (r : Place) → Fits p (seen (without (Going (length (tasks_of ls))) cs))
       (held (without (Going (length (tasks_of ls))) cs) r) (claim p (declared p (without (Going (length (tasks_of ls))) cs)) ls r)
@@ -150,15 +150,15 @@ module _ (p : Image) (t : Typing) (cs : List Cell) (o : Object) (ls : List Layer
           none false = refl
 
       u : Untouched p (λ f. Null) o.name ls
-      u = untouched p t cs g o tidy stack.0.1 (λ f. Null) ls Gone (omega arith) stack.2
+      u = untouched p t cs g o no_duplicates stack.0.1 (λ f. Null) ls Gone (omega arith) stack.2
 
       name_gone : named (without (Going (length (tasks_of ls))) cs) o.name ≡ None
-      name_gone = unnamed cs g o tidy stack.0.1
+      name_gone = unnamed cs g o no_duplicates stack.0.1
 
       keep : (r : Place) → is_queue_of o.name r ≡ false → claim p (declared p cs) (Dying o ∷ ls) r ≡ claim p (declared p cs) ls r →
           declared p cs r ≡ declared p (without (Going (length (tasks_of ls))) cs) r → Fits p (seen cs') (held cs r) (claim p (declared p cs') ls r)
       keep r plain e h = fits_age p
-          (seen cs) (seen cs') (held cs r) _ (λ x e' fresh age. (λ f. fewer (Field x.name f) (age.0 f), unrequested cs g x.name tidy age.1))
+          (seen cs) (seen cs') (held cs r) _ (λ x e' fresh age. (λ f. fewer (Field x.name f) (age.0 f), unrequested cs g x.name no_duplicates age.1))
           (subst (λ k. Fits p (seen cs) (held cs r) k) (e ∙ claim_rel (λ x y. x ≡ y) (λ k. refl) p (declared p cs) (declared p cs') ls r h) (fits r plain))
 
       -- what is null and holds nothing goes on so
@@ -176,7 +176,7 @@ module _ (p : Image) (t : Typing) (cs : List Cell) (o : Object) (ls : List Layer
               let same = eqb-true o.name n d in
               nothing (Field n f) (ap (λ m. held cs (Field m f)) (sym same) ∙ own_field) (ap (λ m. claim p (declared p cs') ls (Field m f)) (sym same)
               ∙ claim_unclaimed p (declared p cs') ls o.name f (λ f. Null) u.unclaimed (ap (λ x. declared_field p x f) name_gone))
-          fields false d = keep (Field n f) refl (grind (arith, nat_tests)) (ap (λ x. declared_field p x f) (sym (named_without cs g o n tidy stack.0.1 d)))
+          fields false d = keep (Field n f) refl (grind (arith, nat_tests)) (ap (λ x. declared_field p x f) (sym (named_without cs g o n no_duplicates stack.0.1 d)))
       others (Elsewhere (Session n c)) e = sessions (o.name == n) refl
         where
           own_session : held cs (Elsewhere (Session o.name c)) ≡ None
@@ -189,8 +189,8 @@ module _ (p : Image) (t : Typing) (cs : List Cell) (o : Object) (ls : List Layer
               (ap (λ m. claim p (declared p cs') ls (Elsewhere (Session m c))) (sym same) ∙ u.sessions (declared p cs') c ∙ ap (λ x. cond (has_session
               (service_of cs' o.name) c) (filled (session_thing p x) Full) Null) name_gone ∙ cond_same (has_session (service_of cs' o.name) c) Null)
           sessions false d = keep (Elsewhere (Session n c)) refl (ap (λ b. cond b Null (claim p (declared p cs) ls (Elsewhere (Session n c)))) d)
-              (ap (λ v. cond (has_session v c) (filled (session_thing p (named cs n)) Full) Null) (sym (service_without cs g o n tidy stack.0.1 d))
-              ∙ ap (λ x. cond (has_session (service_of cs' n) c) (filled (session_thing p x) Full) Null) (sym (named_without cs g o n tidy stack.0.1 d)))
+              (ap (λ v. cond (has_session v c) (filled (session_thing p (named cs n)) Full) Null) (sym (service_without cs g o n no_duplicates stack.0.1 d))
+              ∙ ap (λ x. cond (has_session (service_of cs' n) c) (filled (session_thing p x) Full) Null) (sym (named_without cs g o n no_duplicates stack.0.1 d)))
       others (Elsewhere (Queued n m)) e = waits (o.name == n) refl
         where
           waits : (b : Bool) → (o.name == n) ≡ b → Fits p (seen cs') (held cs (Elsewhere (Queued n m))) (claim p (declared p cs') ls (Elsewhere (Queued n m)))
@@ -201,8 +201,8 @@ module _ (p : Image) (t : Typing) (cs : List Cell) (o : Object) (ls : List Layer
               ∙ ap (λ x. cond (has_message (service_of cs' o.name) m) (filled (message_thing p x) Full) Null) name_gone
               ∙ cond_same (has_message (service_of cs' o.name) m) Null)
           waits false d = keep (Elsewhere (Queued n m)) (eqb_comm n o.name ∙ d) refl
-              (ap (λ v. cond (has_message v m) (filled (message_thing p (named cs n)) Full) Null) (sym (service_without cs g o n tidy stack.0.1 d))
-              ∙ ap (λ x. cond (has_message (service_of cs' n) m) (filled (message_thing p x) Full) Null) (sym (named_without cs g o n tidy stack.0.1 d)))
+              (ap (λ v. cond (has_message v m) (filled (message_thing p (named cs n)) Full) Null) (sym (service_without cs g o n no_duplicates stack.0.1 d))
+              ∙ ap (λ x. cond (has_message (service_of cs' n) m) (filled (message_thing p x) Full) Null) (sym (named_without cs g o n no_duplicates stack.0.1 d)))
       others (Going k) e = keep (Going k) refl (grind (arith, nat_tests)) refl
         where
           tail : (b : Bool) → (b && true) ≡ false → b ≡ false
@@ -216,65 +216,65 @@ module _ (p : Image) (t : Typing) (cs : List Cell) (o : Object) (ls : List Layer
       go false e = others r e
 
   -- what is left is another object
-  suits_after : AllSuit p (without (Going (length (tasks_of ls))) cs) ls
-  suits_after x lives = grind (arith, nat_tests, eqb-true o.name x.name, unnamed cs, named_without cs, requested_without cs)
+  conforms_to_after : AllConformTo p (without (Going (length (tasks_of ls))) cs) ls
+  conforms_to_after x lives = grind (arith, nat_tests, eqb-true o.name x.name, unnamed cs, named_without cs, requested_without cs)
 
 -- the method below goes on, or the run is at its end
 goes_on : (p : Image) (t : Typing) (s : State) (ls : List Layer) →
     Stack p t s.cells Gone ls → ((r : Place) → Fits p (seen s.cells) (held s.cells r) (claim p (declared p s.cells) ls r)) →
-    AllSuit p s.cells ls → Tidy s.cells → s.tasks ≡ resumed (tasks_of ls) → forms s.items ≡ items_of ls → AllUndo p s.items → WellTyped p t s
-goes_on p t s [] stack fits suits tidy tasks items undos = let clash : Gone ≡ Now = stack in cc
-goes_on p t s (Method fr sh ∷ ls) stack fits suits tidy tasks items undos =
+    AllConformTo p s.cells ls → NoDuplicates s.cells → s.tasks ≡ resumed (tasks_of ls) → forms s.items ≡ items_of ls → AllUndo p s.items → WellTyped p t s
+goes_on p t s [] stack fits conforms_to no_duplicates tasks items undo_operations = let clash : Gone ≡ Now = stack in cc
+goes_on p t s (Method fr sh ∷ ls) stack fits conforms_to no_duplicates tasks items undo_operations =
     let f : Fitted p t s.cells (next fr) sh ls = record {
       fits = λ r. subst (λ k. Fits p (seen s.cells) (held s.cells r) k) (sym (claim_frame p (declared p s.cells) fr (next fr) sh ls r refl refl)) (fits r);
-      suits = suits;
-      tidy = tidy;
+      conforms_to = conforms_to;
+      no_duplicates = no_duplicates;
       frames = frames_reworded stack.1 stack.1.words;
-      housed = stack.2;
+      receiver_held = stack.2;
       apart = stack.3;
       stack = stack.4;
     } in
     let g = settle p t s.cells (next fr) sh ls f stack.0 in
-    record { layers = Method (next fr) g.0 ∷ ls; tasks = tasks; items = items ∙ ap (λ es. objects es (items_of ls)) (sym g.2); undos = undos; good = g.1 }
-goes_on p t s (Unwinding code es ∷ ls) stack fits suits tidy tasks items undos = record {
+    record { layers = Method (next fr) g.0 ∷ ls; tasks = tasks; items = items ∙ ap (λ es. objects es (items_of ls)) (sym g.2); undo_operations = undo_operations; good = g.1 }
+goes_on p t s (Unwinding code es ∷ ls) stack fits conforms_to no_duplicates tasks items undo_operations = record {
   layers = Unwinding code es ∷ ls;
   tasks = tasks;
   items = items;
-  undos = undos;
-  good = record { stack = (tt, stack.1); fits = fits; suits = suits; tidy = tidy };
+  undo_operations = undo_operations;
+  good = record { stack = (tt, stack.1); fits = fits; conforms_to = conforms_to; no_duplicates = no_duplicates };
 }
-goes_on p t s (Dispatching Of_root seats ∷ ls) stack fits suits tidy tasks items undos = record {
-  layers = Dispatching Of_root seats ∷ ls;
+goes_on p t s (Dispatching Of_root owned_chain ∷ ls) stack fits conforms_to no_duplicates tasks items undo_operations = record {
+  layers = Dispatching Of_root owned_chain ∷ ls;
   tasks = tasks;
   items = items;
-  undos = undos;
-  good = record { stack = (tt, stack.1, stack.2, stack.3, stack.4); fits = fits; suits = suits; tidy = tidy };
+  undo_operations = undo_operations;
+  good = record { stack = (tt, stack.1, stack.2, stack.3, stack.4); fits = fits; conforms_to = conforms_to; no_duplicates = no_duplicates };
 }
-goes_on p t s (Dispatching (Of_server x client Parts) seats ∷ ls) stack fits suits tidy tasks items undos = record {
-  layers = Dispatching (Of_server x client Parts) seats ∷ ls;
+goes_on p t s (Dispatching (Of_server x client Disconnects) owned_chain ∷ ls) stack fits conforms_to no_duplicates tasks items undo_operations = record {
+  layers = Dispatching (Of_server x client Disconnects) owned_chain ∷ ls;
   tasks = tasks;
   items = items;
-  undos = undos;
-  good = record { stack = (tt, stack.1, stack.2, stack.3, stack.4); fits = fits; suits = suits; tidy = tidy };
+  undo_operations = undo_operations;
+  good = record { stack = (tt, stack.1, stack.2, stack.3, stack.4); fits = fits; conforms_to = conforms_to; no_duplicates = no_duplicates };
 }
-goes_on p t s (Ending o left ∷ ls) stack fits suits tidy tasks items undos = record {
+goes_on p t s (Ending o left ∷ ls) stack fits conforms_to no_duplicates tasks items undo_operations = record {
   layers = Ending o left ∷ ls;
   tasks = tasks;
   items = items;
-  undos = undos;
-  good = record { stack = (stack.0, tt, stack.2, stack.3); fits = fits; suits = suits; tidy = tidy };
+  undo_operations = undo_operations;
+  good = record { stack = (stack.0, tt, stack.2, stack.3); fits = fits; conforms_to = conforms_to; no_duplicates = no_duplicates };
 }
-goes_on p t s (Dying o ∷ ls) stack fits suits tidy tasks items undos = record {
+goes_on p t s (Dying o ∷ ls) stack fits conforms_to no_duplicates tasks items undo_operations = record {
   layers = Dying o ∷ ls;
   tasks = tasks;
   items = items;
-  undos = undos;
-  good = record { stack = (stack.0, tt, stack.2); fits = fits; suits = suits; tidy = tidy };
+  undo_operations = undo_operations;
+  good = record { stack = (stack.0, tt, stack.2); fits = fits; conforms_to = conforms_to; no_duplicates = no_duplicates };
 }
-goes_on p t s _ stack fits suits tidy tasks items undos = absurd stack.0
+goes_on p t s _ stack fits conforms_to no_duplicates tasks items undo_operations = absurd stack.0
 
 -- what is about to go is at rest
-dying_rests : (k : Option ClassKind) (r : Option Request) → Suits k (resting_in (last_of k)) r → is_at_rest r ≡ true
+dying_rests : (k : Option ClassKind) (r : Option Request) → ConformsTo k (resting_in (last_of k)) r → is_at_rest r ≡ true
 unfolding last_of
 dying_rests k x s = grind arith
 
@@ -299,45 +299,45 @@ module _ (p : Image) (t : Typing) (s : State) (o : Object) (ls : List Layer) (go
   g = Going (length (tasks_of ls))
 
   stack_less : Stack p t less Now (Dying o ∷ ls)
-  stack_less = stack_dropped waits p s.cells good.tidy waits_messages waits_sent t (Dying o ∷ ls) Now good.stack
+  stack_less = stack_dropped waits p s.cells good.no_duplicates waits_messages waits_sent t (Dying o ∷ ls) Now good.stack
 
-  tidy_less : Tidy less
-  tidy_less = tidy_dropped waits s.cells good.tidy
+  tidy_less : NoDuplicates less
+  tidy_less = tidy_dropped waits s.cells good.no_duplicates
 
   fits_less : (r : Place) → is_queue_of o.name r ≡ false → Fits p (seen less) (held less r) (claim p (declared p less) (Dying o ∷ ls) r)
   fits_less r e = rw (claim_rel (λ x y. x ≡ y) (λ k. refl) p (declared p s.cells) (declared p less) (Dying o ∷ ls) r
-      (sym (declared_dropped waits p s.cells good.tidy waits_messages r))) at (fits_dropped waits p s.cells good.tidy waits_messages r _ e (good.fits r))
+      (sym (declared_dropped waits p s.cells good.no_duplicates waits_messages r))) at (fits_dropped waits p s.cells good.no_duplicates waits_messages r _ e (good.fits r))
 
-  suits_less : AllSuit p less (Dying o ∷ ls)
-  suits_less = suits_dropped waits p s.cells good.tidy waits_messages (Dying o ∷ ls) good.suits
+  conforms_to_less : AllConformTo p less (Dying o ∷ ls)
+  conforms_to_less = conforms_to_dropped waits p s.cells good.no_duplicates waits_messages (Dying o ∷ ls) good.conforms_to
 
   none_waits : (m : ℕ) → held less (Elsewhere (Queued o.name m)) ≡ None
   none_waits m = grind (arith, nat_tests, held_dropped, eq-eqb o.name)
 
   rests_less : is_at_rest (requested less o.name) ≡ true
-  rests_less = ap is_at_rest (stays_same waits p s.cells good.tidy waits_messages g o refl good.stack.0.1).request ∙ rests_as_it_goes p t s.cells o ls good
+  rests_less = ap is_at_rest (stays_same waits p s.cells good.no_duplicates waits_messages g o refl good.stack.0.1).request ∙ rests_as_it_goes p t s.cells o ls good
 
   -- the state once it is gone
   abbrev after : List Cell → State
   after cs = record s {
-    cells = each_unslotted (service_of s.cells o.name).sessions (without g cs);
+    cells = each_slot_released (service_of s.cells o.name).sessions (without g cs);
     tasks = resumed (tasks_of ls);
     clients = sessions_ended (service_of s.cells o.name).sessions (queue_ended (service_of s.cells o.name).queue s.clients);
   }
 
   gone_well : forms s.items ≡ items_of ls → AllUndo p s.items → WellTyped p t (after less)
-  gone_well items undos =
+  gone_well items undo_operations =
       let ss = (service_of s.cells o.name).sessions in
       let cs2 = without g less in
-      let cs3 = each_unslotted ss cs2 in
-      let alike = each_unslotted_alike ss cs2 in
-      let requests = each_unslotted_requests ss cs2 in
+      let cs3 = each_slot_released ss cs2 in
+      let alike = each_slot_released_alike ss cs2 in
+      let requests = each_slot_released_requests ss cs2 in
       goes_on p t (after less) ls (stack_alike p t cs2 cs3 alike
       (λ n some. ap is_some (requests n) ∙ some) ls Gone (stack_without p t less g o tidy_less stack_less.0.1 ls Gone (omega arith) (λ from. tt) stack_less.2))
-      (λ r. fits_alike p t cs2 cs3 alike ls r (λ x e fresh. requests x.name) (fits_after p t less o ls stack_less tidy_less suits_less fits_less none_waits r))
-      (λ x lives. subst (λ r. Suits (thing_kind p x.thing) (states_claim p x ls) r) (sym (requests x.name)) (suits_after p t less o ls stack_less tidy_less
-      suits_less fits_less none_waits x (sym (alike.named_so x.name) ∙ lives))) (alike.tidy (tidy_without less g tidy_less)) refl items undos
+      (λ r. fits_alike p t cs2 cs3 alike ls r (λ x e fresh. requests x.name) (fits_after p t less o ls stack_less tidy_less conforms_to_less fits_less none_waits r))
+      (λ x lives. subst (λ r. ConformsTo (thing_kind p x.thing) (states_claim p x ls) r) (sym (requests x.name)) (conforms_to_after p t less o ls stack_less tidy_less
+      conforms_to_less fits_less none_waits x (sym (alike.named_so x.name) ∙ lives))) (alike.no_duplicates (tidy_without less g tidy_less)) refl items undo_operations
 
 pub going_keeps : (p : Image) (t : Typing) (s : State) (o : Object) (ls : List Layer) → Good p t s.cells (Dying o ∷ ls) → forms s.items ≡ items_of ls →
-    AllUndo p s.items → Keeps p t (gone (held s.cells (Going (length (tasks_of ls)))) (tasks_of ls) s)
-going_keeps p t s o ls good items undos = grind (arith, nat_tests, emptied_by, nothing_left, queue_dropped, rests_less, gone_well)
+    AllUndo p s.items → PreservesTyping p t (gone (held s.cells (Going (length (tasks_of ls)))) (tasks_of ls) s)
+going_keeps p t s o ls good items undo_operations = grind (arith, nat_tests, emptied_by, nothing_left, queue_dropped, rests_less, gone_well)

@@ -1,7 +1,7 @@
 -- Only registers that a method has come to own: an instruction names no other, and arguments come to the first ones.
 use Rattle.std.proofs.lemmas.Bool.Decides.{nat_tests}
-use Rattle.aom_semantics.specs.World.{heard_one, taken_from, Heard, Environment, turn}
-use Rattle.aom_safety.proofs.Turned.{obeys, handles, accepts, attends, parts, completes, keeps_all, kills, picks, turns_so}
+use Rattle.aom_semantics.specs.World.{observed_one, taken_from, Observed, Environment, turn}
+use Rattle.aom_safety.proofs.Turned.{executes, handles, accepts, attends, parts, completes, keeps_all, kills, picks, turns_so}
 use Rattle.std.proofs.Common.{Bool, List, Option, [], arith, cond, length, subst, suc, ℕ, ℤ, ◌+◌, ◌∷◌, ◌≡◌, ◌≤◌, sym}
 use Rattle.aom_image.specs.Image.{Image}
 use Rattle.aom_image.specs.declared.method.Argument.{Argument}
@@ -9,21 +9,21 @@ use Rattle.aom_image.specs.declared.method.Argument.TheVariants.{Own as Takes_ow
 use Rattle.aom_image.specs.declared.method.Gives.{Gives}
 use Rattle.aom_safety.proofs.Fitting.{EffectFits, UpdateFits, fits}
 use Rattle.aom_safety.proofs.Moving.{steps_are_moves}
-use Rattle.aom_safety.specs.Steps.{Acts, Arrives, Clears, Comes_out, Empties, Ends, Move, Rests, Undoes, Vanishes}
+use Rattle.aom_safety.specs.Steps.{Acts, Arrives, Clears, Comes_out, Empties, Ends, Move, Rests, Undoes, Reclaims}
 use Rattle.aom_safety.proofs.Guarded.{acts_at}
 use Rattle.aom_semantics.specs.Calls.{passed_cells, returned}
 use Rattle.aom_semantics.specs.Tokens.{all_redeemed}
 use Rattle.aom_semantics.specs.Effects.{Effect, Update, applied, cells_after}
-use Rattle.aom_semantics.specs.Requests.{rerequested}
+use Rattle.aom_semantics.specs.Requests.{request_updated}
 use Rattle.aom_safety.specs.Laws.{IsWired, RegistersKeep}
 use Rattle.aom_semantics.specs.Moves.{counted, dispatch_ends, step}
 use Rattle.aom_semantics.specs.Places.{Service, set_service, Session, In_service, Queued, Cell, Elsewhere, Entry, Going, Place}
 use Rattle.aom_semantics.specs.Places.{Request, moved, set_request, set_word_field, without, set_session}
 use Rattle.aom_safety.specs.Registers.{AllInRange, IsInRange}
-use Rattle.aom_semantics.specs.State.{Choice, Dispatch, Frame, Goes, Home, State, Task}
-use Rattle.aom_semantics.specs.Natives.{all_bereaved, resessioned}
-use Rattle.aom_semantics.specs.Servers.{withdrawn, without_queue, is_queue_of, all_unslotted}
-use Rattle.aom_semantics.specs.Clients.{each_unslotted, commanded}
+use Rattle.aom_semantics.specs.State.{Choice, Dispatch, Frame, Goes, Receiver, State, Task}
+use Rattle.aom_semantics.specs.Natives.{all_detached, session_updated}
+use Rattle.aom_semantics.specs.Servers.{withdrawn, without_queue, is_queue_of, all_slot_released}
+use Rattle.aom_semantics.specs.Clients.{each_slot_released, commanded}
 use Rattle.aom_transcript.specs.declared.event.ClientCommand.{ClientCommand}
 
 move_in_range : (p q : Place) (cs : List Cell) → IsInRange q → AllInRange cs → AllInRange (moved p q cs)
@@ -46,9 +46,9 @@ opens_in_range : (n : ℕ) (session : Bool) (cs : List Cell) → AllInRange cs �
 opens_in_range n session [] all = tt
 opens_in_range n session (c ∷ cs) all = (all.0, opens_in_range n session cs all.1)
 
-bereaved_in_range : (p : Image) (n : ℕ) (cs : List Cell) → AllInRange cs → AllInRange (all_bereaved p n cs)
-bereaved_in_range p n [] all = tt
-bereaved_in_range p n (c ∷ cs) all = (all.0, bereaved_in_range p n cs all.1)
+detached_in_range : (p : Image) (n : ℕ) (cs : List Cell) → AllInRange cs → AllInRange (all_detached p n cs)
+detached_in_range p n [] all = tt
+detached_in_range p n (c ∷ cs) all = (all.0, detached_in_range p n cs all.1)
 
 redeemed_in_range : (order : ℕ) (code : ℤ) (cs : List Cell) → AllInRange cs → AllInRange (all_redeemed order code cs)
 redeemed_in_range order code [] all = tt
@@ -70,20 +70,20 @@ dequeued_in_range : (n : ℕ) (cs : List Cell) → AllInRange cs → AllInRange 
 dequeued_in_range n [] all = tt
 dequeued_in_range n (c ∷ cs) all = fewer_in_range (is_queue_of n c.owner) c (without_queue n cs) all.0 (dequeued_in_range n cs all.1)
 
-unslotted_in_range : (client : ℕ) (cs : List Cell) → AllInRange cs → AllInRange (all_unslotted client cs)
-unslotted_in_range client [] all = tt
-unslotted_in_range client (c ∷ cs) all = (all.0, unslotted_in_range client cs all.1)
+slot_released_in_range : (client : ℕ) (cs : List Cell) → AllInRange cs → AllInRange (all_slot_released client cs)
+slot_released_in_range client [] all = tt
+slot_released_in_range client (c ∷ cs) all = (all.0, slot_released_in_range client cs all.1)
 
-each_unslotted_in_range : (clients : List ℕ) (cs : List Cell) → AllInRange cs → AllInRange (each_unslotted clients cs)
-each_unslotted_in_range [] cs all = all
-each_unslotted_in_range (c ∷ clients) cs all = each_unslotted_in_range clients (all_unslotted c cs) (unslotted_in_range c cs all)
+each_slot_released_in_range : (clients : List ℕ) (cs : List Cell) → AllInRange cs → AllInRange (each_slot_released clients cs)
+each_slot_released_in_range [] cs all = all
+each_slot_released_in_range (c ∷ clients) cs all = each_slot_released_in_range clients (all_slot_released c cs) (slot_released_in_range c cs all)
 
 -- the result of a call comes to a register that the call names
 module _ (p : Image) (wired : IsWired p) (fr : Frame) (ts : List Task) (s : State) (all : AllInRange s.cells) where
-  request_in_range : (home : Home) (r : Option Request) → AllInRange (rerequested s.cells home r)
+  request_in_range : (receiver : Receiver) (r : Option Request) → AllInRange (request_updated s.cells receiver r)
   request_in_range x r = grind (arith, nat_tests, asks_in_range)
 
-  session_in_range : (home : Home) (session : Bool) → AllInRange (resessioned s.cells home session)
+  session_in_range : (receiver : Receiver) (session : Bool) → AllInRange (session_updated s.cells receiver session)
   session_in_range x session = grind (arith, nat_tests, opens_in_range)
 
   update_in_range : (u : Update) → UpdateFits p u → AllInRange (cells_after p fr ts s u)
@@ -122,7 +122,7 @@ moves p wired c s u all e = of (steps_are_moves p c s u e)
         let a = acts_at p c s u fr ts i at there e in
         let named = wired.operands fr.method fr.place i there in
         along _ (sym a.1) (grind (arith, nat_tests, apply_in_range, fits))
-    of (Vanishes ts o at there none same) = along _ same (grind (arith, nat_tests, each_unslotted_in_range, end_in_range, dequeued_in_range))
+    of (Reclaims ts o at there none same) = along _ same (grind (arith, nat_tests, each_slot_released_in_range, end_in_range, dequeued_in_range))
     of (Empties ts o at there same) = along _ same (grind (arith, nat_tests, move_in_range))
     of (Clears code ts items o at top there same) = along _ same (move_in_range (Entry (length items)) (Going (suc (length ts))) s.cells tt all)
     of (Ends d ts at same) = along _ same (dispatch_in_range p d (counted p s) all)
@@ -132,12 +132,12 @@ moves p wired c s u all e = of (steps_are_moves p c s u e)
     of (Arrives code fr ts items at top same) = along _ same all
     of (Comes_out code d ts items at top same) = along _ same all
 
-turns : (p : Image) (outside : Environment) (heard : Heard) (s u : State) → AllInRange s.cells → turn p outside heard s ≡ Goes u → AllInRange u.cells
-turns p outside heard s u all e = elim (turns_so p outside heard s u e) as (λ v d. AllInRange v.cells) [
+turns : (p : Image) (outside : Environment) (observed : Observed) (s u : State) → AllInRange s.cells → turn p outside observed s ≡ Goes u → AllInRange u.cells
+turns p outside observed s u all e = elim (turns_so p outside observed s u e) as (λ v d. AllInRange v.cells) [
   | keeps_all r ↦ all
   | completes code o r other ↦ asks_in_range o.name _ s.cells all
-  | kills n r k ↦ bereaved_in_range p n s.cells all
-  | obeys client command name ↦ commands_in_range p client (heard_one s) all command name
+  | kills n r k ↦ detached_in_range p n s.cells all
+  | executes client command name ↦ commands_in_range p client (observed_one s) all command name
   | picks x v d ↦ elim d as (λ v d. AllInRange v.cells) [
     | handles m at ↦ asks_in_range x.object.name _ s.cells all
     | accepts client m at ↦ serve_in_range x.object.name _ s.cells all

@@ -8,7 +8,7 @@ use Rattle.aom_roles.specs.Classes.{kind_in, sessions_in, sessions_of}
 use Rattle.aom_roles.specs.Shapes.{kind_of}
 use Rattle.aom_image.specs.declared.method.Thing.TheVariants.{Message}
 use Rattle.aom_roles.specs.Families.{descends_in, parent_in}
-use Rattle.aom_safety.proofs.Seated.{seats_none}
+use Rattle.aom_safety.proofs.OwnedPlaced.{owned_objects_none}
 use Rattle.aom_safety.proofs.Sources.{has_sender}
 use Rattle.aom_semantics.specs.Cases.Building.{a_cell, keeper, pair}
 use Rattle.aom_safety.specs.Apart.{Fit, KeptNeedsFail, opened, serves, waits}
@@ -103,7 +103,7 @@ module _ (v : Service) (owner : Place) (queue : v.queue ≡ []) (sessions : v.se
     senders = λ n c m h. let clash : false ≡ true = ap (λ q. list_any (is_message_of c m) q) (sym (at_it (7 == n))) ∙ h in cc;
     sources = λ o h. grind arith;
     served = λ o h. grind (arith, nat_tests, has_sender);
-    seats = λ o h. grind (arith, nat_tests, seats_none, at_it, none_of_it);
+    owned_chain = λ o h. grind (arith, nat_tests, owned_objects_none, at_it, none_of_it);
   }
 
 -- ---- and those in which they do not
@@ -136,8 +136,8 @@ kept_needs_fail = record {
   token_no_message = λ fit. let clash : 1 ≡ 0 = fit.sources (record { name = 7; thing = pair }) refl in cc;
   serves_token = λ fit. let clash : false ≡ true = fit.served (record { name = 7; thing = Message }) refl in cc;
   waits_alone = λ apart. let clash : 1 ≡ 2 = apart.waits 1 2 0 refl refl in cc;
-  tokens_alike = λ apart. let clash : 1 ≡ 2 = apart.told 1 2 0 refl refl in cc;
-  too_many = λ fit. let many : 2 ≤ 1 = fit.seats (record { name = 5; thing = keeper }) refl in omega arith;
+  tokens_alike = λ apart. let clash : 1 ≡ 2 = apart.reported 1 2 0 refl refl in cc;
+  too_many = λ fit. let many : 2 ≤ 1 = fit.owned_chain (record { name = 5; thing = keeper }) refl in omega arith;
   accepts = (refl, refl, omega arith);
   accepts_nobody = λ k. let clash : false ≡ true = k.0 in cc;
   accepts_again = λ k. let clash : true ≡ false = k.1 in cc;

@@ -2,14 +2,14 @@
 use Rattle.std.proofs.Common.{arith, ℕ, List, ◌∷◌, ◌≡◌, ℤ, subst}
 use Rattle.aom_safety.proofs.ImageLemmas.{cons_given}
 use Rattle.aom_image.specs.declared.method.Gives.{Gives}
-use Rattle.aom_shape.specs.Shape.{Shape}
-use Rattle.aom_shape.specs.declared.kind.CleanupEntry.{CleanupEntry}
+use Rattle.aom_abstract_state.specs.AbstractState.{AbstractState}
+use Rattle.aom_abstract_state.specs.declared.kind.CleanupEntry.{CleanupEntry}
 use Rattle.aom_safety.specs.Claims.{Ending, Dispatching, Dying, Layer, Mark, Method, Unwinding, task_of, tasks_of}
 use Rattle.aom_semantics.specs.Places.{Object}
-use Rattle.aom_semantics.specs.State.{Closing, Destroy, Dispatch, Dispatched, Frame, Run, Seat, Task, Trapped, Unwind}
+use Rattle.aom_semantics.specs.State.{Closing, Destroy, Dispatch, Dispatched, Frame, Run, OwnedObject, Task, Trapped, Unwind}
 
 -- the layer of a task
-method_of : (l : Layer) (fr : Frame) → task_of l ≡ Run fr → (sh : Shape) × (l ≡ Method fr sh)
+method_of : (l : Layer) (fr : Frame) → task_of l ≡ Run fr → (sh : AbstractState) × (l ≡ Method fr sh)
 method_of l fr e = grind arith
 
 going_of : (l : Layer) → task_of l ≡ Destroy → (o : Object) × (l ≡ Dying o)
@@ -21,7 +21,7 @@ closing_of x e = grind arith
 leave_of : (l : Layer) (code : ℤ) → task_of l ≡ Unwind code → (es : List CleanupEntry) × (l ≡ Unwinding code es)
 leave_of l code e = grind arith
 
-dispatch_of : (l : Layer) (d : Dispatch) → task_of l ≡ Dispatched d → (seats : List Seat) × (l ≡ Dispatching d seats)
+dispatch_of : (l : Layer) (d : Dispatch) → task_of l ≡ Dispatched d → (owned_chain : List OwnedObject) × (l ≡ Dispatching d owned_chain)
 dispatch_of l d e = grind arith
 
 mark_of : (l : Layer) → task_of l ≡ Trapped → (gv : Gives) × (l ≡ Mark gv)
@@ -34,7 +34,7 @@ module _ {G : Type 0} (P : List Layer → Type 0) where
       cons_given (λ ls. (tasks_of ls ≡ x ∷ ts) × P ls) ls (e, h) (λ h. let clash = h.0 in cc) (λ l below is h. let e = h.0 in gives l below (cc) (cc) h.1)
 
   pub method_layer : (fr : Frame) (ts : List Task) (ls : List Layer) → tasks_of ls ≡ Run fr ∷ ts → P ls →
-      ((sh : Shape) (below : List Layer) → tasks_of below ≡ ts → P (Method fr sh ∷ below) → G) → G
+      ((sh : AbstractState) (below : List Layer) → tasks_of below ≡ ts → P (Method fr sh ∷ below) → G) → G
   method_layer fr ts ls e h gives =
       top_layer (Run fr) ts ls e h (λ l below task rest h. let f = method_of l fr task in gives f.0 below rest (subst (λ l. P (l ∷ below)) f.1 h))
 
@@ -54,7 +54,7 @@ module _ {G : Type 0} (P : List Layer → Type 0) where
       top_layer (Unwind code) ts ls e h (λ l below task rest h. let f = leave_of l code task in gives f.0 below rest (subst (λ l. P (l ∷ below)) f.1 h))
 
   pub dispatch_layer : (d : Dispatch) (ts : List Task) (ls : List Layer) → tasks_of ls ≡ Dispatched d ∷ ts → P ls →
-      ((seats : List Seat) (below : List Layer) → tasks_of below ≡ ts → P (Dispatching d seats ∷ below) → G) → G
+      ((owned_chain : List OwnedObject) (below : List Layer) → tasks_of below ≡ ts → P (Dispatching d owned_chain ∷ below) → G) → G
   dispatch_layer d ts ls e h gives =
       top_layer (Dispatched d) ts ls e h (λ l below task rest h. let f = dispatch_of l d task in gives f.0 below rest (subst (λ l. P (l ∷ below)) f.1 h))
 

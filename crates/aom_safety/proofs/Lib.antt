@@ -2,9 +2,9 @@ mod Waiting
 mod Owned
 mod Counts
 mod Services
-mod Sifted
+mod FilteredCells
 mod Queues
-mod Seated
+mod OwnedPlaced
 mod Sources
 mod ClientsSteady
 mod ClientsFit
@@ -14,14 +14,14 @@ mod ClientsGone
 mod ClientsCommand
 mod Attending
 mod Dropping
-mod Unslotting
+mod SlotRelease
 mod Accepting
 mod Parting
 mod Emptied
 mod Emptying
 mod Things
 mod Items
-mod Seats
+mod OwnedObjects
 mod Claimed
 mod Guarded
 mod Exchanging
@@ -31,7 +31,7 @@ mod Turned
 mod Preserving
 mod Resting
 mod Counting
-mod Housing
+mod ReceiverHolding
 mod Families
 mod Straight
 mod Widening
@@ -81,7 +81,7 @@ mod View
 mod Standing
 mod Trapping
 mod Layers
-mod Suiting
+mod ConformingTo
 mod Entering
 mod Asking
 mod Signals
@@ -100,14 +100,14 @@ mod ClientsKeep
 mod Commanding
 mod Sending
 mod Withdrawing
-mod Obeying
+mod Executing
 mod KeptNeedsFail
 pub mod SafetyLemmas
-pub use Rattle.aom_classes.proofs.ClassesLemmas
-pub use Rattle.aom_families.proofs.FamiliesLemmas
+pub use Rattle.aom_link_conditions.proofs.LinkConditionsLemmas
+pub use Rattle.aom_inheritance.proofs.InheritanceLemmas
 pub use Rattle.aom_image.proofs.ImageLemmas
 pub use Rattle.aom_instructions.proofs.InstructionsLemmas
 pub use Rattle.aom_roles.proofs.RolesLemmas
-pub use Rattle.aom_rules.proofs.RulesLemmas
+pub use Rattle.aom_typing_rules.proofs.TypingRulesLemmas
 pub use Rattle.aom_semantics.proofs.SemanticsLemmas
-pub use Rattle.aom_shape.proofs.ShapeLemmas
+pub use Rattle.aom_abstract_state.proofs.AbstractStateLemmas

@@ -8,11 +8,11 @@ use Rattle.aom_image.specs.Image.{Image}
 use Rattle.aom_image.specs.Views.{instr_at, transfer_at, transfer_in}
 use Rattle.aom_instructions.specs.declared.instr.Instr.{Instr}
 use Rattle.aom_instructions.specs.declared.transfer.Transfer.TheVariants.{Begin, Repeat}
-use Rattle.aom_safety.proofs.ClassesLemmas.{linked_is_looped}
-use Rattle.aom_classes.specs.Bodies.{Body, IsIn, IsLooped}
-use Rattle.aom_classes.specs.Jumps.{jump_of}
-use Rattle.aom_classes.specs.Loops.{begun_by, loop_in}
-use Rattle.aom_safety.proofs.SemanticsLemmas.{at-put_at}
+use Rattle.aom_safety.proofs.LinkConditionsLemmas.{linked_is_looped}
+use Rattle.aom_link_conditions.specs.Bodies.{Body, IsIn, IsLooped}
+use Rattle.aom_link_conditions.specs.Jumps.{jump_of}
+use Rattle.aom_link_conditions.specs.Loops.{begun_by, loop_in}
+use Rattle.aom_safety.proofs.SemanticsLemmas.{at-set_extending}
 use Rattle.aom_safety.proofs.Preserving.{Kept, keeps, turn_keeps_it}
 use Rattle.aom_semantics.specs.Calls.{entered}
 use Rattle.aom_semantics.specs.Cleanup.{operation_frame}
@@ -45,10 +45,10 @@ module _ (p : Image) (looped_so : IsLooped p) (fr : Frame) (i : Instr) (at : ins
 module _ (p : Image) (looped_so : IsLooped p) (fr : Frame) (rounds : RoundsAt p fr fr.place) where
   -- a counter that is set counts for its own loop alone
   other_counter : (e k d : ℕ) → e ≢ d → counter (set_counter fr e k) d ≡ counter fr d
-  other_counter e k d differs = at-put_at 0 fr.counters e d k ∙ ap (λ b. cond b k (counter fr d)) (ne_eqb e d differs)
+  other_counter e k d differs = at-set_extending 0 fr.counters e d k ∙ ap (λ b. cond b k (counter fr d)) (ne_eqb e d differs)
 
   own_counter : (e k d : ℕ) → e ≡ d → counter (set_counter fr e k) d ≡ k
-  own_counter e k d same = at-put_at 0 fr.counters e d k ∙ ap (λ b. cond b k (counter fr d)) (eq-eqb e d same)
+  own_counter e k d same = at-set_extending 0 fr.counters e d k ∙ ap (λ b. cond b k (counter fr d)) (eq-eqb e d same)
 
   same_or : (a b : ℕ) → (P : Type 0) → (a ≡ b → P) → (a ≢ b → P) → P
   same_or a b P same_so other_so = elim (cases_Bool (a == b)) as (λ x. P) [
@@ -120,7 +120,7 @@ module _ (p : Image) (looped_so : IsLooped p) (fr : Frame) (rounds : RoundsAt p 
     next_round k left from to d n body inside = same_or from closing.0 _ own (λ differs. aside (suc k) from to d n body differs here_is)
       where
         here_is : IsIn from to fr.place
-        here_is = looped_so.nexts fr.method fr.place e t at from to d n body inside
+        here_is = looped_so.next_places fr.method fr.place e t at from to d n body inside
 
         own : from ≡ closing.0 → (0 < counter (set_counter fr e (suc k)) d) × (counter (set_counter fr e (suc k)) d ≤ n)
         own same =
@@ -146,7 +146,7 @@ module _ (p : Image) (looped_so : IsLooped p) (c : Choice) (s : State) where
     waits = λ fr ts i a f words. goes_on p looped_so fr i a.there a.runs f;
     resumes = λ fr ts w words. w;
     calls = λ fr ts i a target m first x e. fresh p (entered p fr ts (counted p s) target m first (length s.items));
-    cancels = λ fr ts i a m e f. fresh p (frame_as m fr.home fr.view (length s.items));
+    cancels = λ fr ts i a m e f. fresh p (frame_as m fr.receiver fr.view (length s.items));
     traps = λ fr ts i a target m first x e. (fresh p (entered p fr ts (counted p s) target m first (length (A_mark ∷ s.items))), tt);
     destructs = λ o x m height ts e. fresh p (destructor_frame p m o (length ts) height);
     asks = λ x m code height e. fresh p (error_frame m x code height);
@@ -162,8 +162,8 @@ loops_keep = record {
   linked = linked_is_looped;
   boot = boot;
   moves = moves;
-  turns = λ p looped_so outside heard s u h e. turn_keeps_it p outside heard (rounds_left p) s u (λ m height home words d. fresh p
-      (record (frame_of m home height) { words = words })) (λ d. tt) (λ o x m height ts e. fresh p (destructor_frame p m o (length ts) height)) h e;
+  turns = λ p looped_so outside observed s u h e. turn_keeps_it p outside observed (rounds_left p) s u (λ m height receiver words d. fresh p
+      (record (frame_of m receiver height) { words = words })) (λ d. tt) (λ o x m height ts e. fresh p (destructor_frame p m o (length ts) height)) h e;
 }
   where
     boot : (p : Image) → RoundsLeft p (boot_state p).tasks

@@ -10,23 +10,23 @@ use Rattle.aom_safety.proofs.Emptied.{owns_nothing_by}
 use Rattle.aom_safety.proofs.Fitting.{fits}
 use Rattle.aom_safety.proofs.Guarded.{goes_same, guarded_goes, guarded_met}
 use Rattle.aom_semantics.specs.Cleanup.{arrived, destroyed, unwound}
-use Rattle.aom_semantics.specs.Destruction.{vanished, parting_from, closing, gone, needs_gone}
+use Rattle.aom_semantics.specs.Destruction.{reclaimed, parting_from, closing, gone, needs_gone}
 use Rattle.aom_semantics.specs.Effects.{applied, effect}
 use Rattle.aom_semantics.specs.Moves.{needs_end, act, counted, does, needs, step_instr, step_task}
 use Rattle.aom_semantics.specs.Places.{Entry, Going, held}
 use Rattle.aom_semantics.specs.State.{Closing, A_mark, An_object, An_operation, Choice, Destroy, Dispatched, Frame}
 use Rattle.aom_semantics.specs.State.{Goes, IsStuck, Item, NullOrDead, Run, State, Task, Trapped, Unwind}
-use Rattle.aom_safety.specs.Steps.{Empties, Acts, Arrives, Clears, Comes_out, Ends, Fits, IsStill, Move, Rests, StepsAreMoves, Undoes, Vanishes}
+use Rattle.aom_safety.specs.Steps.{Empties, Acts, Arrives, Clears, Comes_out, Ends, Fits, IsStill, Move, Rests, StepsAreMoves, Undoes, Reclaims}
 use Rattle.aom_semantics.specs.Servers.{without_queue}
 
 -- a cell goes
-vanishes : (p : Image) (c : Choice) (ts : List Task) (s u : State) → s.tasks ≡ Destroy ∷ ts →
+reclaims : (p : Image) (c : Choice) (ts : List Task) (s u : State) → s.tasks ≡ Destroy ∷ ts →
     gone (held s.cells (Going (length ts))) ts (counted p s) ≡ Goes u → Move p c s u
-vanishes p c ts s u at e = some_given (λ o. gone o ts (counted p s) ≡ Goes u) (held s.cells (Going (length ts))) e (λ stuck. cc) (λ o there e.
+reclaims p c ts s u at e = some_given (λ o. gone o ts (counted p s) ≡ Goes u) (held s.cells (Going (length ts))) e (λ stuck. cc) (λ o there e.
     let needed = needs_gone (without_queue o.name s.cells) o in
-    let after : State = vanished o ts (counted p s) in
+    let after : State = reclaimed o ts (counted p s) in
     let met = guarded_met needed after u e in
-    Vanishes ts o at there (owns_nothing_by (without_queue o.name s.cells) o.name met.0 met.1.0) (sym (guarded_goes needed after u e)))
+    Reclaims ts o at there (owns_nothing_by (without_queue o.name s.cells) o.name met.0 met.1.0) (sym (guarded_goes needed after u e)))
 
 -- a server that goes has its sessions go first
 empties : (p : Image) (c : Choice) (ts : List Task) (s u : State) → s.tasks ≡ Closing ∷ ts → closing p ts (counted p s) ≡ Goes u → Move p c s u
@@ -68,7 +68,7 @@ steps_are_moves p c s u e = go s.tasks refl e
     go [] at e = Rests (subst IsStill (sym at) tt) (sym (goes_same _ u e))
     go (Run fr ∷ ts) at e = runs fr ts at e
     go (Trapped ∷ ts) at e = cc
-    go (Destroy ∷ ts) at e = vanishes p c ts s u at e
+    go (Destroy ∷ ts) at e = reclaims p c ts s u at e
     go (Closing ∷ ts) at e = empties p c ts s u at e
     go (Unwind code ∷ ts) at e = unwinds p c code ts s.items s u at refl e
     go (Dispatched d ∷ ts) at e = Ends d ts at (sym (guarded_goes (needs_end d s.cells) _ u e))

@@ -9,26 +9,26 @@ use Rattle.aom_image.specs.Views.{arguments_in, arguments_of, class_in, gives_in
 use Rattle.aom_image.specs.Views.{leaves_in, method_at, method_class, method_role, quiet_in, role_in}
 use Rattle.aom_image.specs.declared.method.Method.{Method}
 use Rattle.aom_image.specs.declared.method.Role.TheVariants.{Construct, Do}
-use Rattle.aom_safety.proofs.ClassesLemmas.{all_there, same_roles}
-use Rattle.aom_classes.specs.Overriding.{AllStandIn, StandsInNamed, body_of, leads_in, over_in, overrides}
-use Rattle.aom_safety.proofs.FamiliesLemmas.{bodies_are_alike}
-use Rattle.aom_families.specs.Laws.{RunsAlike}
+use Rattle.aom_safety.proofs.LinkConditionsLemmas.{all_there, same_roles}
+use Rattle.aom_link_conditions.specs.Overriding.{AllMayOverride, MayOverrideNamed, body_of, leads_in, over_in, overrides}
+use Rattle.aom_safety.proofs.InheritanceLemmas.{bodies_are_alike}
+use Rattle.aom_inheritance.specs.Laws.{RunsAlike}
 use Rattle.aom_safety.proofs.RolesLemmas.{through}
 use Rattle.aom_roles.specs.Families.{descends}
-use Rattle.aom_safety.proofs.ShapeLemmas.{has_along, has_itself}
-use Rattle.aom_shape.specs.Arguments.{after_in, after_of, argument_kind, before_in, before_of, entry_fields, entry_shape}
-use Rattle.aom_shape.specs.Kinds.{field}
-use Rattle.aom_shape.specs.Order.{SaysNoMore, Weaker, WeakerFilling}
-use Rattle.aom_shape.specs.Shape.{Shape}
+use Rattle.aom_safety.proofs.AbstractStateLemmas.{has_along, has_itself}
+use Rattle.aom_abstract_state.specs.Arguments.{after_in, after_of, argument_kind, before_in, before_of, entry_fields, entry_shape}
+use Rattle.aom_abstract_state.specs.Kinds.{field}
+use Rattle.aom_abstract_state.specs.Order.{IsImpliedBy, Weaker, WeakerFilling}
+use Rattle.aom_abstract_state.specs.AbstractState.{AbstractState}
 use Rattle.aom_roles.specs.Tables.{at}
 use Rattle.aom_roles.specs.Things.{field_thing, Holder, Member, holder_of}
-use Rattle.aom_shape.specs.declared.kind.Filling.TheVariants.{Perhaps}
-use Rattle.aom_shape.specs.declared.kind.Kind.TheVariants.{Unset}
-use Rattle.aom_shape.specs.Kinds.{register}
+use Rattle.aom_abstract_state.specs.declared.kind.FieldState.TheVariants.{Perhaps}
+use Rattle.aom_abstract_state.specs.declared.kind.Kind.TheVariants.{Unset}
+use Rattle.aom_abstract_state.specs.Kinds.{register}
 use Rattle.aom_safety.proofs.Callees.{holder_called}
-use Rattle.aom_safety.proofs.Housing.{houses_family}
+use Rattle.aom_safety.proofs.ReceiverHolding.{receiver_conforms_family}
 use Rattle.aom_safety.specs.Laws.{IsCalled, IsWired}
-use Rattle.aom_safety.specs.WellTyped.{CountsAs, Houses}
+use Rattle.aom_safety.specs.WellTyped.{CountsAs, ReceiverConforms}
 
 -- k runs in the place of m on what counts as that
 pub record RunsFor (p : Image) (m k : ℕ) (h : Holder) (view : Option ℕ) : Type 0 where
@@ -40,15 +40,15 @@ pub record RunsFor (p : Image) (m k : ℕ) (h : Holder) (view : Option ℕ) : Ty
   pub quiet : is_quiet p m ≡ true → is_quiet p k ≡ true
   pub before : IsTrue (has (before_of p k) (before_of p m))
   pub after : IsTrue (has (after_of p m) (after_of p k))
-  pub holder : Houses p h (holder_of p k)
+  pub holder : ReceiverConforms p h (holder_of p k)
   pub counts : CountsAs p h view (holder_of p k)
   -- nothing runs in the place of a construct
   pub only : method_role p m ≡ Some Construct → k ≡ m
 
 -- where nothing overrides the method
-itself_runs : (p : Image) (m : ℕ) (h : Holder) (view : Option ℕ) → IsSome (method_at p m) → Houses p h (holder_of p m) →
+itself_runs : (p : Image) (m : ℕ) (h : Holder) (view : Option ℕ) → IsSome (method_at p m) → ReceiverConforms p h (holder_of p m) →
     CountsAs p h view (holder_of p m) → RunsFor p m m h view
-itself_runs p m h view there houses counts = record {
+itself_runs p m h view there receiver_conforms counts = record {
   there = there;
   role = refl;
   arguments = refl;
@@ -57,7 +57,7 @@ itself_runs p m h view there houses counts = record {
   quiet = λ q. q;
   before = has_itself (before_of p m);
   after = has_itself (after_of p m);
-  holder = houses;
+  holder = receiver_conforms;
   counts = counts;
   only = λ r. refl;
 }
@@ -77,10 +77,10 @@ leads_there p m d named n z leads = go (method_at p z) refl n leads
     go None at (suc n) leads = absurd (grind (arith, nat_tests, itself))
 
 -- what overrides a method is a plain one
-overrides_plainly : (p : Image) → AllStandIn p → (m k : ℕ) (d e : Method) → method_at p m ≡ Some e → method_at p k ≡ Some d → overrides p k m ≡ true → d.role ≡ Do
+overrides_plainly : (p : Image) → AllMayOverride p → (m k : ℕ) (d e : Method) → method_at p m ≡ Some e → method_at p k ≡ Some d → overrides p k m ≡ true → d.role ≡ Do
 unfolding leads_in over_in method_at
 overrides_plainly p fit m k d e there at over =
-    grind (arith, nat_tests, leads_there p m e there, there, all_there (StandsInNamed p) p.methods k d fit at, same_roles d.role Do)
+    grind (arith, nat_tests, leads_there p m e there, there, all_there (MayOverrideNamed p) p.methods k d fit at, same_roles d.role Do)
 
 -- and where something does
 overrider_runs : (p : Image) → IsWired p → (m v k : ℕ) (h : Holder) (e : Method) → IsCalled p m → RunsAlike p m v k e → CountsAs p h (Some v) (holder_of p m) →
@@ -95,8 +95,8 @@ overrider_runs p wired m v k h e called x counts = record {
   quiet = λ q. ap quiet_in x.alike.there ∙ x.alike.asks.quiet (sym (ap quiet_in x.alike.named) ∙ q);
   before = grind (arith, nat_tests);
   after = grind (arith, nat_tests);
-  holder = subst (λ y. Houses p h y) (sym works) (subst
-      (λ y. Houses p y (Member x.class)) (sym object.1) (houses_family p wired.family object.0 x.class (through p object.0 v x.class object.2 x.family)));
+  holder = subst (λ y. ReceiverConforms p h y) (sym works) (subst
+      (λ y. ReceiverConforms p y (Member x.class)) (sym object.1) (receiver_conforms_family p wired.family object.0 x.class (through p object.0 v x.class object.2 x.family)));
   only = grind (arith, nat_tests, overrides_plainly p wired.overriders m k x.method e x.alike.named x.alike.there x.overrides, role);
   counts = record {
     some = λ c is. (v, refl);
@@ -120,39 +120,39 @@ overrider_runs p wired m v k h e called x counts = record {
     same : (w : ℕ) → Some v ≡ Some w → v ≡ w
     same w is = cc
 
-pub runs_for : (p : Image) → IsWired p → (m : ℕ) (view : Option ℕ) (h : Holder) → IsCalled p m → Houses p h (holder_of p m) →
+pub runs_for : (p : Image) → IsWired p → (m : ℕ) (view : Option ℕ) (h : Holder) → IsCalled p m → ReceiverConforms p h (holder_of p m) →
     CountsAs p h view (holder_of p m) → RunsFor p m (body_of p m view) h view
 unfolding body_of
-runs_for p wired m None h called houses counts = itself_runs p m h None called.there houses counts
-runs_for p wired m (Some v) h called houses counts = some_given (λ o. IsSome o) (method_at p m) called.there (λ none. cc) (λ e at there.
+runs_for p wired m None h called receiver_conforms counts = itself_runs p m h None called.there receiver_conforms counts
+runs_for p wired m (Some v) h called receiver_conforms counts = some_given (λ o. IsSome o) (method_at p m) called.there (λ none. cc) (λ e at there.
     elim (bodies_are_alike p wired.overriders m v (body_of p m (Some v)) e at refl) [
-      | inl same ↦ subst (λ k. RunsFor p m k h (Some v)) (sym same) (itself_runs p m h (Some v) called.there houses counts)
+      | inl same ↦ subst (λ k. RunsFor p m k h (Some v)) (sym same) (itself_runs p m h (Some v) called.there receiver_conforms counts)
       | inr x ↦ overrider_runs p wired m v (body_of p m (Some v)) h e called x counts
     ])
 
 -- what says no more than its first state says no more than that of the method called
-pub begins_as : (p : Image) (m k : ℕ) (h : Holder) (view : Option ℕ) → RunsFor p m k h view → (after : Shape) → SaysNoMore after (entry_shape p k) →
-    SaysNoMore after (entry_shape p m)
+pub begins_as : (p : Image) (m k : ℕ) (h : Holder) (view : Option ℕ) → RunsFor p m k h view → (after : AbstractState) → IsImpliedBy after (entry_shape p k) →
+    IsImpliedBy after (entry_shape p m)
 begins_as p m k h view runs after w = record {
   registers = λ i. subst (λ xs. Weaker (register after i) (at Unset (map argument_kind xs) i)) runs.arguments (w.registers i);
   fields = λ i. subst (λ r. WeakerFilling (field after i) (at Perhaps (entry_fields r) i)) runs.role (w.fields i);
   entries = w.entries;
   states = has_along after.states (before_of p k) (before_of p m) w.states runs.before;
-  delivery = w.delivery;
+  message_state = w.message_state;
 }
 
 -- what runs in the place of a quiet method is quiet
-pub body_quiet : (p : Image) → AllStandIn p → (m : ℕ) (view : Option ℕ) → is_quiet p m ≡ true → is_quiet p (body_of p m view) ≡ true
+pub body_quiet : (p : Image) → AllMayOverride p → (m : ℕ) (view : Option ℕ) → is_quiet p m ≡ true → is_quiet p (body_of p m view) ≡ true
 unfolding body_of quiet_in
 body_quiet p fit m None q = q
-body_quiet p fit m (Some v) q = some_given (λ o. quiet_in o ≡ true) (method_at p m) q (λ none. cc) (λ e at loud.
+body_quiet p fit m (Some v) q = some_given (λ o. quiet_in o ≡ true) (method_at p m) q (λ none. cc) (λ e at nonquiet.
     elim (bodies_are_alike p fit m v (body_of p m (Some v)) e at refl) [
       | inl same ↦ ap (is_quiet p) same ∙ q
-      | inr x ↦ ap quiet_in x.alike.there ∙ x.alike.asks.quiet loud
+      | inr x ↦ ap quiet_in x.alike.there ∙ x.alike.asks.quiet nonquiet
     ])
 
 -- and leaves only where the method may
-pub body_leaves : (p : Image) → AllStandIn p → (m : ℕ) (view : Option ℕ) → IsSome (method_at p m) → leaves p (body_of p m view) ≡ true → leaves p m ≡ true
+pub body_leaves : (p : Image) → AllMayOverride p → (m : ℕ) (view : Option ℕ) → IsSome (method_at p m) → leaves p (body_of p m view) ≡ true → leaves p m ≡ true
 unfolding body_of leaves_in
 body_leaves p fit m None there l = l
 body_leaves p fit m (Some v) there l = some_given (λ o. IsSome o) (method_at p m) there (λ none. cc) (λ e at some.

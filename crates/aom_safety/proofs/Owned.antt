@@ -4,28 +4,28 @@ use Rattle.std.proofs.Common.{arith, Bool, List, Option, Some, [], cond, true, �
 use Rattle.aom_image.specs.Image.{Image}
 use Rattle.aom_image.specs.declared.method.Thing.{Thing}
 use Rattle.aom_image.specs.declared.method.Thing.TheVariants.{Object as An_object_of}
-use Rattle.aom_rules.specs.Typing.{Typing}
-use Rattle.aom_shape.specs.Kinds.{filled}
-use Rattle.aom_roles.specs.Things.{Program, field_thing, stands_for, is_object}
-use Rattle.aom_shape.specs.Shape.{Shape}
-use Rattle.aom_shape.specs.declared.kind.CleanupEntry.{CleanupEntry}
-use Rattle.aom_shape.specs.declared.kind.Filling.{Filling}
-use Rattle.aom_shape.specs.declared.kind.Filling.TheVariants.{Full, Perhaps}
-use Rattle.aom_shape.specs.declared.kind.Kind.{Kind}
-use Rattle.aom_shape.specs.declared.kind.Kind.TheVariants.{Maybe, Own}
+use Rattle.aom_typing_rules.specs.Typing.{Typing}
+use Rattle.aom_abstract_state.specs.Kinds.{filled}
+use Rattle.aom_roles.specs.Things.{Program, field_thing, is_subtype, is_object}
+use Rattle.aom_abstract_state.specs.AbstractState.{AbstractState}
+use Rattle.aom_abstract_state.specs.declared.kind.CleanupEntry.{CleanupEntry}
+use Rattle.aom_abstract_state.specs.declared.kind.FieldState.{FieldState}
+use Rattle.aom_abstract_state.specs.declared.kind.FieldState.TheVariants.{Full, Perhaps}
+use Rattle.aom_abstract_state.specs.declared.kind.Kind.{Kind}
+use Rattle.aom_abstract_state.specs.declared.kind.Kind.TheVariants.{Maybe, Own}
 use Rattle.aom_safety.specs.Claims.{Dispatching, Form, Layer, Method, Unwinding}
 use Rattle.aom_safety.specs.Claims.{by_session, claim, declared, entry_claim, items_of, root_claim}
 use Rattle.aom_semantics.specs.Objects.{is_no_message}
-use Rattle.aom_semantics.specs.Places.{Cell, Elsewhere, Entry, Object, Place, Root, Session, Sight, held, seen}
+use Rattle.aom_semantics.specs.Places.{Cell, Elsewhere, Entry, Object, Place, Root, Session, CellView, held, seen}
 use Rattle.aom_semantics.specs.Servers.{session_thing}
-use Rattle.aom_semantics.specs.State.{Home, State}
+use Rattle.aom_semantics.specs.State.{Receiver, State}
 use Rattle.aom_safety.specs.WellTyped.{Fits, WellTyped}
 
 -- what stands for a thing of a class is an object
-pub object_for : (p : Image) (x : Thing) (c : ℕ) → stands_for p x (An_object_of c) ≡ true → is_object x ≡ true
+pub object_for : (p : Image) (x : Thing) (c : ℕ) → is_subtype p x (An_object_of c) ≡ true → is_object x ≡ true
 object_for p x c e = grind arith
 
-module _ (p : Image) (h : Sight) (o : Object) where
+module _ (p : Image) (h : CellView) (o : Object) where
   -- it is an object, by a kind that fits it
   abbrev IsOne : Kind → Type 0
   IsOne k = Fits p h (Some o) k → is_object o.thing ≡ true
@@ -43,16 +43,16 @@ module _ (p : Image) (h : Sight) (o : Object) where
   claimed_entry cs (Unwinding code es ∷ ls) k = among_entries es (items_of ls) k _ (claimed_entry cs ls k)
   claimed_entry cs (_ ∷ ls) k = claimed_entry cs ls k
 
-  by_filling : (x : Filling) → IsOne (filled (field_thing p Program 0) x)
+  by_filling : (x : FieldState) → IsOne (filled (field_thing p Program 0) x)
   by_filling x = grind (arith, nat_tests, object_for p o.thing)
 
-  at_home : (home : Home) (sh : Shape) (below : Kind) → IsOne below → IsOne (root_claim p home sh below)
-  at_home x sh below one = grind (arith, nat_tests, by_filling)
+  at_receiver : (receiver : Receiver) (sh : AbstractState) (below : Kind) → IsOne below → IsOne (root_claim p receiver sh below)
+  at_receiver x sh below one = grind (arith, nat_tests, by_filling)
 
   claimed_root : (cs : List Cell) (ls : List Layer) → IsOne (claim p (declared p cs) ls (Elsewhere Root))
   claimed_root cs [] = by_filling Perhaps
-  claimed_root cs (Method fr sh ∷ ls) = at_home fr.home sh _ (claimed_root cs ls)
-  claimed_root cs (Dispatching d seats ∷ ls) = grind (arith, nat_tests, either, claimed_root cs ls)
+  claimed_root cs (Method fr sh ∷ ls) = at_receiver fr.receiver sh _ (claimed_root cs ls)
+  claimed_root cs (Dispatching d owned_chain ∷ ls) = grind (arith, nat_tests, either, claimed_root cs ls)
   claimed_root cs (_ ∷ ls) = claimed_root cs ls
 
 module _ (p : Image) (t : Typing) (s : State) (typed : WellTyped p t s) (o : Object) where

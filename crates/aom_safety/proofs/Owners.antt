@@ -12,30 +12,30 @@ use Rattle.aom_image.specs.declared.method.Thing.{Thing}
 use Rattle.aom_image.specs.declared.method.Thing.TheVariants.{Message, Object as An_object_of}
 use Rattle.aom_roles.specs.Classes.{kind_in, sessions_at, sessions_in}
 use Rattle.aom_roles.specs.Shapes.{kind_of}
-use Rattle.aom_shape.specs.Kinds.{field, filled}
-use Rattle.aom_roles.specs.Things.{holder_of, Program, field_thing, stands_for}
-use Rattle.aom_rules.specs.Typing.{Typing}
-use Rattle.aom_shape.specs.declared.kind.CleanupEntry.{CleanupEntry}
-use Rattle.aom_shape.specs.declared.kind.Filling.{Filling}
-use Rattle.aom_shape.specs.declared.kind.Filling.TheVariants.{Full, Perhaps}
-use Rattle.aom_shape.specs.declared.kind.Kind.{Kind}
-use Rattle.aom_shape.specs.declared.kind.Kind.TheVariants.{Maybe, Null, Own}
+use Rattle.aom_abstract_state.specs.Kinds.{field, filled}
+use Rattle.aom_roles.specs.Things.{holder_of, Program, field_thing, is_subtype}
+use Rattle.aom_typing_rules.specs.Typing.{Typing}
+use Rattle.aom_abstract_state.specs.declared.kind.CleanupEntry.{CleanupEntry}
+use Rattle.aom_abstract_state.specs.declared.kind.FieldState.{FieldState}
+use Rattle.aom_abstract_state.specs.declared.kind.FieldState.TheVariants.{Full, Perhaps}
+use Rattle.aom_abstract_state.specs.declared.kind.Kind.{Kind}
+use Rattle.aom_abstract_state.specs.declared.kind.Kind.TheVariants.{Maybe, Null, Own}
 use Rattle.aom_safety.proofs.Claimed.{claim_entry_above, claim_register_above}
 use Rattle.aom_safety.proofs.Items.{length_forms}
 use Rattle.aom_safety.proofs.SemanticsLemmas.{found, of_name, same_place-true, same_place_refl}
-use Rattle.aom_safety.proofs.Housing.{stands_session}
+use Rattle.aom_safety.proofs.ReceiverHolding.{stands_session}
 use Rattle.aom_safety.proofs.Things.{serving_class, stands_message}
 use Rattle.aom_safety.specs.Claims.{own_field, Dispatching, Dying, Ending, Layer, Mark, Mark_form, Method, Object_form, Unwinding, claim}
-use Rattle.aom_safety.specs.Claims.{delivered, serves, declared, entry_claim, form, forms, home_claim, is_of_root, items_of, objects, task_of, tasks_of}
+use Rattle.aom_safety.specs.Claims.{delivered, serves, declared, entry_claim, form, forms, receiver_claim, is_of_root, items_of, objects, task_of, tasks_of}
 use Rattle.aom_safety.specs.Laws.{EndsEmpty, EndsOwned, IsWired}
 use Rattle.aom_semantics.specs.Owned.{AllOwned, Ends, HasRegisters, HasService, IsObjects, Lives, NoneGoes, Owned}
 use Rattle.aom_semantics.specs.Owned.{at_entry, at_register, at_root, at_service, by_cell, by_server, over}
-use Rattle.aom_semantics.specs.Places.{Cell, Elsewhere, Entry, Field, Going, Object, Place, Register, Root, Sight}
-use Rattle.aom_semantics.specs.Places.{Tidy, held, named, seen, service_of, Session, In_service, Queued}
+use Rattle.aom_semantics.specs.Places.{Cell, Elsewhere, Entry, Field, Going, Object, Place, Register, Root, CellView}
+use Rattle.aom_semantics.specs.Places.{NoDuplicates, held, named, seen, service_of, Session, In_service, Queued}
 use Rattle.aom_safety.specs.Registers.{AllInRange, IsInRange}
 use Rattle.aom_semantics.specs.Servers.{has_message, has_session, message_thing, session_thing}
-use Rattle.aom_semantics.specs.State.{home_holder, AtRoot, Home, Inside, Item, State, Static, thing_holder}
-use Rattle.aom_safety.specs.WellTyped.{Back, Caught, Fits, Gone, Houses, IsHoused, IsServed, Leaves, Now, Returns, Stack, WellTyped}
+use Rattle.aom_semantics.specs.State.{receiver_holder, AtRoot, Receiver, Inside, Item, State, Static, thing_holder}
+use Rattle.aom_safety.specs.WellTyped.{Back, Caught, Fits, Gone, ReceiverConforms, ReceiverIsHeld, IsServed, Leaves, Now, Returns, Stack, WellTyped}
 
 -- what a kind of an owning place says of the thing
 abbrev pub HasThing : Kind → Thing → Type 0
@@ -44,10 +44,10 @@ HasThing (Maybe c a) x = x ≡ c
 HasThing _ x = ⊥
 
 -- what an owning place is claimed to own, and the thing that is there in its place
-abbrev pub StandsIn : Image → Kind → Thing → Type 0
-StandsIn p k x = (y : Thing) × HasThing k y × (stands_for p x y ≡ true)
+abbrev pub MayOverride : Image → Kind → Thing → Type 0
+MayOverride p k x = (y : Thing) × HasThing k y × (is_subtype p x y ≡ true)
 
-pub fits_thing : (p : Image) (h : Sight) (o : Object) (k : Kind) → Fits p h (Some o) k → StandsIn p k o.thing
+pub fits_thing : (p : Image) (h : CellView) (o : Object) (k : Kind) → Fits p h (Some o) k → MayOverride p k o.thing
 fits_thing p h o x f = grind arith
 
 -- the first cell is held by its owner
@@ -55,16 +55,16 @@ held_first : (c : Cell) (cs : List Cell) → held (c ∷ cs) c.owner ≡ Some c.
 held_first c cs = ap (λ b. cond b (Some c.object) (held cs c.owner)) (same_place_refl c.owner)
 
 -- what the other cells hold is held in all
-pub later : (cs : List Cell) (c : Cell) (q : Place) (o : Object) → Tidy (c ∷ cs) → held cs q ≡ Some o → held (c ∷ cs) q ≡ Some o
+pub later : (cs : List Cell) (c : Cell) (q : Place) (o : Object) → NoDuplicates (c ∷ cs) → held cs q ≡ Some o → held (c ∷ cs) q ≡ Some o
 later cs c q o t h = grind (arith, nat_tests, same_place-true c.owner q)
 
 -- a cell that is named is held somewhere
-pub named_held : (cs : List Cell) (n : ℕ) (o : Object) → Tidy cs → named cs n ≡ Some o → (q : Place) × (held cs q ≡ Some o)
-named_held cs n o t e = found (of_name n) o (λ cs. Tidy cs → (q : Place) × (held cs q ≡ Some o))
+pub named_held : (cs : List Cell) (n : ℕ) (o : Object) → NoDuplicates cs → named cs n ≡ Some o → (q : Place) × (held cs q ≡ Some o)
+named_held cs n o t e = found (of_name n) o (λ cs. NoDuplicates cs → (q : Place) × (held cs q ≡ Some o))
     (λ c cs at is t. (c.owner, held_first c cs ∙ ap (λ x. Some x) is)) (λ c cs other e rest t. let w = rest t.2 in (w.0, later cs c w.0 o t w.1)) cs e t
 
 -- what is claimed to be filled is declared for a thing
-filled_thing : (k : Option Thing) (y : Filling) (x : Thing) → HasThing (filled k y) x → k ≡ Some x
+filled_thing : (k : Option Thing) (y : FieldState) (x : Thing) → HasThing (filled k y) x → k ≡ Some x
 filled_thing k y x h = grind arith
 
 -- and is so where a test holds
@@ -83,26 +83,26 @@ declared_thing_of p cs n f c h = grind (arith, nat_tests)
 pub field_thing_of : (p : Image) (t : Typing) (cs : List Cell) (ls : List Layer) (back : Back) (n f : ℕ) (c : Thing) → Stack p t cs back ls →
     HasThing (claim p (declared p cs) ls (Field n f)) c → (o : Object) × (named cs n ≡ Some o) × (field_thing p (thing_holder o.thing) f ≡ Some c)
 field_thing_of p t cs [] back n f c s h = declared_thing_of p cs n f c h
-field_thing_of p t cs (Method fr sh ∷ ls) back n f c s h = go fr.home s.1.holder s.2 (field_thing_of p t cs ls (Returns fr.method fr.home) n f c s.4) h
+field_thing_of p t cs (Method fr sh ∷ ls) back n f c s h = go fr.receiver s.1.holder s.2 (field_thing_of p t cs ls (Returns fr.method fr.receiver) n f c s.4) h
   where
-    go : (home : Home) → Houses p (home_holder home) (holder_of p fr.method) → IsHoused p cs ls home → (HasThing (claim p (declared p cs) ls (Field n f)) c →
-        (o : Object) × (named cs n ≡ Some o) × (field_thing p (thing_holder o.thing) f ≡ Some c)) → HasThing (home_claim p (holder_of p fr.method) home sh n f
+    go : (receiver : Receiver) → ReceiverConforms p (receiver_holder receiver) (holder_of p fr.method) → ReceiverIsHeld p cs ls receiver → (HasThing (claim p (declared p cs) ls (Field n f)) c →
+        (o : Object) × (named cs n ≡ Some o) × (field_thing p (thing_holder o.thing) f ≡ Some c)) → HasThing (receiver_claim p (holder_of p fr.method) receiver sh n f
         (claim p (declared p cs) ls (Field n f))) c → (o : Object) × (named cs n ≡ Some o) × (field_thing p (thing_holder o.thing) f ≡ Some c)
-    go Static houses hs ih h = ih h
-    go AtRoot houses hs ih h = ih h
-    go (Inside o from) houses hs ih h = inside (o.name == n) refl (field_thing p (holder_of p fr.method) f) refl h
+    go Static receiver_conforms hs ih h = ih h
+    go AtRoot receiver_conforms hs ih h = ih h
+    go (Inside o from) receiver_conforms hs ih h = inside (o.name == n) refl (field_thing p (holder_of p fr.method) f) refl h
       where
         inside : (b : Bool) → (o.name == n) ≡ b → (own : Option Thing) → field_thing p (holder_of p fr.method) f ≡ own →
             HasThing (cond b (own_field own (field sh f) (claim p (declared p cs) ls (Field n f))) (claim p (declared p cs) ls (Field n f))) c →
             (o : Object) × (named cs n ≡ Some o) × (field_thing p (thing_holder o.thing) f ≡ Some c)
         inside true e (Some x) is h =
-            (o, ap (λ m. named cs m) (sym (eqb-true o.name n e)) ∙ hs.lives, houses.fields f c (is ∙ filled_thing (Some x) (field sh f) c h))
+            (o, ap (λ m. named cs m) (sym (eqb-true o.name n e)) ∙ hs.lives, receiver_conforms.fields f c (is ∙ filled_thing (Some x) (field sh f) c h))
         inside true e None is h = ih h
         inside false e own is h = ih h
 field_thing_of p t cs (Mark gv ∷ ls) back n f c s h = field_thing_of p t cs ls (Caught gv) n f c s.1 h
 field_thing_of p t cs (Ending o left ∷ ls) back n f c s h = grind (arith, nat_tests, field_thing_of p t cs ls Now n f c s.3, eqb-true o.name n, filled_thing)
 field_thing_of p t cs (Unwinding code es ∷ ls) back n f c s h = field_thing_of p t cs ls Leaves n f c s.1 h
-field_thing_of p t cs (Dispatching w seats ∷ ls) back n f c s h = grind (arith, nat_tests, declared_thing_of)
+field_thing_of p t cs (Dispatching w owned_chain ∷ ls) back n f c s h = grind (arith, nat_tests, declared_thing_of)
 field_thing_of p t cs (Dying o ∷ ls) back n f c s h = grind (arith, nat_tests, field_thing_of p t cs ls Gone n f c s.2, below_null (o.name == n))
 
 -- ---- sessions and messages
@@ -118,10 +118,10 @@ declared_session_of p cs n c x h = grind (arith, nat_tests, found, filled_where,
 pub session_thing_of : (p : Image) (t : Typing) (cs : List Cell) (ls : List Layer) (back : Back) (n c : ℕ) (x : Thing) → Stack p t cs back ls →
     HasThing (claim p (declared p cs) ls (Elsewhere (Session n c))) x → IsSessionAt p cs n c x
 session_thing_of p t cs [] back n c x s h = declared_session_of p cs n c x h
-session_thing_of p t cs (Method fr sh ∷ ls) back n c x s h = session_thing_of p t cs ls (Returns fr.method fr.home) n c x s.4 h
+session_thing_of p t cs (Method fr sh ∷ ls) back n c x s h = session_thing_of p t cs ls (Returns fr.method fr.receiver) n c x s.4 h
 session_thing_of p t cs (Mark gv ∷ ls) back n c x s h = session_thing_of p t cs ls (Caught gv) n c x s.1 h
 session_thing_of p t cs (Unwinding code es ∷ ls) back n c x s h = session_thing_of p t cs ls Leaves n c x s.1 h
-session_thing_of p t cs (Dispatching d seats ∷ ls) back n c x s h = grind (arith, nat_tests, declared_session_of p cs n c x, below_null)
+session_thing_of p t cs (Dispatching d owned_chain ∷ ls) back n c x s h = grind (arith, nat_tests, declared_session_of p cs n c x, below_null)
 session_thing_of p t cs (Dying o ∷ ls) back n c x s h = grind (arith, nat_tests, session_thing_of p t cs ls Gone n c x s.2, below_null (o.name == n))
 session_thing_of p t cs (Ending o left ∷ ls) back n c x s h =
     grind (arith, nat_tests, session_thing_of p t cs ls Now n c x s.3, eqb-true o.name n, found, filled_where)
@@ -142,17 +142,17 @@ served_below ls h = grind arith
 pub service_lives : (p : Image) (t : Typing) (cs : List Cell) (ls : List Layer) (back : Back) (x : Thing) →
     Stack p t cs back ls → HasThing (claim p (declared p cs) ls (Elsewhere In_service)) x → HasService (tasks_of ls)
 service_lives p t cs [] back x s h = absurd h
-service_lives p t cs (Method fr sh ∷ ls) back x s h = go (serves p fr.method) refl (service_lives p t cs ls (Returns fr.method fr.home) x s.4) h
+service_lives p t cs (Method fr sh ∷ ls) back x s h = go (serves p fr.method) refl (service_lives p t cs ls (Returns fr.method fr.receiver) x s.4) h
   where
     go : (b : Bool) → serves p fr.method ≡ b → (HasThing (claim p (declared p cs) ls (Elsewhere In_service)) x → HasService (tasks_of ls)) →
-        HasThing (cond b (delivered sh.delivery) (claim p (declared p cs) ls (Elsewhere In_service))) x → HasService (tasks_of ls)
+        HasThing (cond b (delivered sh.message_state) (claim p (declared p cs) ls (Elsewhere In_service))) x → HasService (tasks_of ls)
     go true e below h = served_below ls (s.1.message.0 e)
     go false e below h = below h
 service_lives p t cs (Mark gv ∷ ls) back x s h = service_lives p t cs ls (Caught gv) x s.1 h
 service_lives p t cs (Dying o ∷ ls) back x s h = service_lives p t cs ls Gone x s.2 h
 service_lives p t cs (Ending o left ∷ ls) back x s h = service_lives p t cs ls Now x s.3 h
 service_lives p t cs (Unwinding code es ∷ ls) back x s h = service_lives p t cs ls Leaves x s.1 h
-service_lives p t cs (Dispatching d seats ∷ ls) back x s h = grind (arith, nat_tests)
+service_lives p t cs (Dispatching d owned_chain ∷ ls) back x s h = grind (arith, nat_tests)
 
 -- ---- the places that are claimed to own live
 
@@ -184,7 +184,7 @@ module _ (p : Image) (cs : List Cell) (x : Thing) where
   registers_live (Dying o ∷ ls) f i h = not_here (Dying o) ls f i h (registers_live ls f i h)
   registers_live (Ending o left ∷ ls) f i h = not_here (Ending o left) ls f i h (registers_live ls f i h)
   registers_live (Unwinding code es ∷ ls) f i h = not_here (Unwinding code es) ls f i h (registers_live ls f i h)
-  registers_live (Dispatching w seats ∷ ls) f i h = not_here (Dispatching w seats) ls f i h (registers_live ls f i h)
+  registers_live (Dispatching w owned_chain ∷ ls) f i h = not_here (Dispatching w owned_chain) ls f i h (registers_live ls f i h)
 
   -- of a layer's own entries, over the items below them
   abbrev ClaimsOver : List CleanupEntry → List Layer → ℕ → Type 0
@@ -206,7 +206,7 @@ module _ (p : Image) (cs : List Cell) (x : Thing) where
   root_lives : (ls : List Layer) → Claims ls (Elsewhere Root) → IsSome (field_thing p Program 0)
   root_lives [] h = ap is_some (filled_thing (field_thing p Program 0) Perhaps x h)
   root_lives (Method fr sh ∷ ls) h = grind (arith, nat_tests, root_lives ls, filled_thing)
-  root_lives (Dispatching d seats ∷ ls) h = root_lives ls (below_null (is_of_root d) (claim p (declared p cs) ls (Elsewhere Root)) x h)
+  root_lives (Dispatching d owned_chain ∷ ls) h = root_lives ls (below_null (is_of_root d) (claim p (declared p cs) ls (Elsewhere Root)) x h)
   root_lives (_ ∷ ls) h = root_lives ls h
 
 -- an item of that form is an object's
@@ -223,7 +223,7 @@ none_going p d [] k clear = refl
 none_going p d (Method fr sh ∷ ls) k clear = none_going p d ls k clear
 none_going p d (Mark gv ∷ ls) k clear = none_going p d ls k clear
 none_going p d (Unwinding code es ∷ ls) k clear = none_going p d ls k clear
-none_going p d (Dispatching w seats ∷ ls) k clear = none_going p d ls k clear
+none_going p d (Dispatching w owned_chain ∷ ls) k clear = none_going p d ls k clear
 none_going p d _ k clear = absurd clear
 
 -- ---- following owners ends
@@ -233,7 +233,7 @@ abbrev pub rank : (p : Image) → IsWired p → Thing → ℕ
 rank p wired (An_object_of c) = suc (wired.family.weight c)
 rank p wired Message = 0
 
-pub lower_rank : (p : Image) (wired : IsWired p) (x y z : Thing) (f : ℕ) → field_thing p (thing_holder x) f ≡ Some y → stands_for p z y ≡ true →
+pub lower_rank : (p : Image) (wired : IsWired p) (x y z : Thing) (f : ℕ) → field_thing p (thing_holder x) f ≡ Some y → is_subtype p z y ≡ true →
     rank p wired z < rank p wired x
 lower_rank p wired x y z f e stands = grind arith
 
@@ -256,7 +256,7 @@ module _ (p : Image) (wired : IsWired p) where
   session_lower o x e = grind (arith, nat_tests, serving_class p o.thing, serving_within)
 
   -- nothing else stands for the session of a server
-  session_only : (o : Object) (y x : Thing) → session_thing p (Some o) ≡ Some y → stands_for p x y ≡ true → x ≡ y
+  session_only : (o : Object) (y x : Thing) → session_thing p (Some o) ≡ Some y → is_subtype p x y ≡ true → x ≡ y
   unfolding kind_of sessions_in
   session_only o y x e stands = grind (arith, nat_tests, serving_class p o.thing, stands_session p wired.family)
 
@@ -265,7 +265,7 @@ module _ (p : Image) (wired : IsWired p) where
 
 module _ (p : Image) (t : Typing) (wired : IsWired p) (s : State) (w : WellTyped p t s) where
   -- what is claimed to be at a place, for which stands what is there
-  pub kind_at : (q : Place) (o : Object) → held s.cells q ≡ Some o → StandsIn p (claim p (declared p s.cells) w.layers q) o.thing
+  pub kind_at : (q : Place) (o : Object) → held s.cells q ≡ Some o → MayOverride p (claim p (declared p s.cells) w.layers q) o.thing
   kind_at q o e = fits_thing p (seen s.cells) o _ (subst (λ x. Fits p (seen s.cells) x (claim p (declared p s.cells) w.layers q)) e (w.good.fits q))
 
   pub at_session : (n c : ℕ) (o : Object) → held s.cells (Elsewhere (Session n c)) ≡ Some o → IsSessionAt p s.cells n c o.thing
@@ -279,7 +279,7 @@ module _ (p : Image) (t : Typing) (wired : IsWired p) (s : State) (w : WellTyped
       let y = kind_at (Elsewhere (Queued n m)) o e in
       let its = queued_thing_of p s.cells w.layers n m y.0 y.1 in
       let message = (queued_lower p wired its.0 y.0 its.3).0 in
-      subst (λ z. IsQueuedAt p s.cells n m z) (message ∙ sym (stands_message p o.thing (subst (λ z. stands_for p o.thing z ≡ true) message y.2))) its
+      subst (λ z. IsQueuedAt p s.cells n m z) (message ∙ sym (stands_message p o.thing (subst (λ z. is_subtype p o.thing z ≡ true) message y.2))) its
 
 module _ (p : Image) (t : Typing) (wired : IsWired p) (s : State) (w : WellTyped p t s) (clear : NoneGoes s.tasks) where
   -- nothing is owned by a destruction
@@ -311,34 +311,34 @@ module _ (p : Image) (t : Typing) (wired : IsWired p) (s : State) (w : WellTyped
       let k = kind_at p t wired s w (Field n f) o e in
       let x = field_thing_of p t s.cells w.layers Now n f k.0 w.good.stack k.1 in
       let lower = lower_rank p wired x.0.thing k.0 o.thing f x.2 k.2 in
-      let y = named_held s.cells n x.0 w.good.tidy x.1 in
+      let y = named_held s.cells n x.0 w.good.no_duplicates x.1 in
       by_cell x.0 y.0 x.1 y.1 (ends_by fuel y.0 x.0 y.1 (omega arith))
   ends_by zero (Elsewhere (Session n c)) o e le = let x = at_session p t wired s w n c o e in let lower = session_lower p wired x.0 o.thing x.3 in
       absurd (omega (arith, le, lower.0, lower.1))
   ends_by (suc fuel) (Elsewhere (Session n c)) o e le =
       let x = at_session p t wired s w n c o e in
       let lower = session_lower p wired x.0 o.thing x.3 in
-      let y = named_held s.cells n x.0 w.good.tidy x.1 in
+      let y = named_held s.cells n x.0 w.good.no_duplicates x.1 in
       by_server x.0 y.0 refl x.1 y.1 (ends_by fuel y.0 x.0 y.1 (omega (arith, le, lower.0)))
   ends_by zero (Elsewhere (Queued n m)) o e le = let x = in_queue p t wired s w n m o e in let lower = (queued_lower p wired x.0 o.thing x.3).1 in
       absurd (omega (arith, le, lower.0, lower.1))
   ends_by (suc fuel) (Elsewhere (Queued n m)) o e le =
       let x = in_queue p t wired s w n m o e in
       let lower = (queued_lower p wired x.0 o.thing x.3).1 in
-      let y = named_held s.cells n x.0 w.good.tidy x.1 in
+      let y = named_held s.cells n x.0 w.good.no_duplicates x.1 in
       by_server x.0 y.0 refl x.1 y.1 (ends_by fuel y.0 x.0 y.1 (omega (arith, le, lower.0)))
 
   pub ends : (q : Place) (o : Object) → held s.cells q ≡ Some o → Ends s q
   ends q o e = ends_by (length p.classes) q o e (omega arith)
 
-  all_owned : (cs : List Cell) → ((q : Place) (o : Object) → held cs q ≡ Some o → held s.cells q ≡ Some o) → Tidy cs → AllInRange cs → AllOwned p s cs
+  all_owned : (cs : List Cell) → ((q : Place) (o : Object) → held cs q ≡ Some o → held s.cells q ≡ Some o) → NoDuplicates cs → AllInRange cs → AllOwned p s cs
   all_owned [] up t' fits = tt
   all_owned (c ∷ cs) up t' fits =
       let e : held s.cells c.owner ≡ Some c.object = up c.owner c.object (held_first c cs) in
       ((lives c.owner c.object fits.0 e, ends c.owner c.object e), all_owned cs (λ q o h. up q o (later cs c q o t' h)) t'.2 fits.1)
 
   pub owned : AllInRange s.cells → Owned p s
-  owned fits = record { each = all_owned s.cells (λ q o h. h) w.good.tidy fits; alone = w.good.tidy; settled = clear }
+  owned fits = record { each = all_owned s.cells (λ q o h. h) w.good.no_duplicates fits; alone = w.good.no_duplicates; settled = clear }
 
 -- at a dispatch's end, and between dispatches
 pub ends_owned : EndsOwned

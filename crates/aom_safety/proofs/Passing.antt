@@ -8,30 +8,30 @@ use Rattle.aom_image.specs.Image.{Image}
 use Rattle.aom_image.specs.declared.method.Argument.{Argument}
 use Rattle.aom_image.specs.declared.method.Argument.TheVariants.{Own as Takes_own, Word as Takes_word}
 use Rattle.aom_roles.specs.Tests.{AllTrue}
-use Rattle.aom_rules.specs.Calls.{each_argument}
-use Rattle.aom_shape.specs.Arguments.{arguments_moved, argument_kind}
-use Rattle.aom_shape.specs.Kinds.{is_object_or_null, register, set_register}
-use Rattle.aom_shape.specs.Order.{Weaker, alike}
-use Rattle.aom_shape.specs.Shape.{Shape}
-use Rattle.aom_roles.specs.Tables.{at, put_at}
-use Rattle.aom_rules.specs.Typing.{Typing}
-use Rattle.aom_shape.specs.declared.kind.Delivery.TheVariants.{Here}
-use Rattle.aom_shape.specs.declared.kind.Age.TheVariants.{Ready}
-use Rattle.aom_shape.specs.declared.kind.Kind.{Kind}
-use Rattle.aom_shape.specs.declared.kind.Kind.TheVariants.{Null, Own, Unset, Word}
+use Rattle.aom_typing_rules.specs.Calls.{each_argument}
+use Rattle.aom_abstract_state.specs.Arguments.{arguments_moved, argument_kind}
+use Rattle.aom_abstract_state.specs.Kinds.{is_object_or_null, register, set_register}
+use Rattle.aom_abstract_state.specs.Order.{Weaker, alike}
+use Rattle.aom_abstract_state.specs.AbstractState.{AbstractState}
+use Rattle.aom_roles.specs.Tables.{at, set_extending}
+use Rattle.aom_typing_rules.specs.Typing.{Typing}
+use Rattle.aom_abstract_state.specs.declared.kind.MessageState.TheVariants.{Here}
+use Rattle.aom_abstract_state.specs.declared.kind.InitState.TheVariants.{Ready}
+use Rattle.aom_abstract_state.specs.declared.kind.Kind.{Kind}
+use Rattle.aom_abstract_state.specs.declared.kind.Kind.TheVariants.{Null, Own, Unset, Word}
 use Rattle.aom_safety.proofs.Claimed.{claim-set_register, claim_register_above, declared_moved, keep_fits, stack_moved}
 use Rattle.aom_safety.proofs.Finishing.{all_join, all_parts}
-use Rattle.aom_safety.proofs.SemanticsLemmas.{at-put_at, held_moved, requested_moved, same_place-true, tidy_moved}
+use Rattle.aom_safety.proofs.SemanticsLemmas.{at-set_extending, held_moved, requested_moved, same_place-true, tidy_moved}
 use Rattle.aom_safety.proofs.Returning.{held_thing, word_is}
 use Rattle.aom_safety.proofs.Widening.{Widens, own_widens}
-use Rattle.aom_safety.proofs.Straight.{At, claim_register, fits_unowning, housed_relocated, kind_fits, no_word_fits, word_of_object, words_null, words_set}
+use Rattle.aom_safety.proofs.Straight.{At, claim_register, fits_unowning, receiver_held_relocated, kind_fits, no_word_fits, word_of_object, words_null, words_set}
 use Rattle.aom_semantics.specs.Calls.{needs_each, passed_cells, passed_words}
 use Rattle.aom_safety.specs.Claims.{Layer, Method, claim, declared, tasks_of}
-use Rattle.aom_semantics.specs.Places.{Cell, Place, Register, Tidy, changed, held, moved, same_place, seen}
+use Rattle.aom_semantics.specs.Places.{Cell, Place, Register, NoDuplicates, changed, held, moved, same_place, seen}
 use Rattle.aom_semantics.specs.State.{Choice, Frame, State, word}
-use Rattle.aom_safety.specs.WellTyped.{Fits, Good, IsHoused, Returns, Stack, WordFits}
-use Rattle.aom_safety.proofs.Suiting.{all_moved}
-use Rattle.aom_safety.specs.Requests.{AllSuit}
+use Rattle.aom_safety.specs.WellTyped.{Fits, Good, ReceiverIsHeld, Returns, Stack, WordFits}
+use Rattle.aom_safety.proofs.ConformingTo.{all_moved}
+use Rattle.aom_safety.specs.Requests.{AllConformTo}
 use Rattle.aom_safety.proofs.RolesLemmas.{put_at_end}
 
 -- a list read at its end
@@ -57,8 +57,8 @@ filled_weaker_below depth regs (Register f i) x y h = go (depth == f)
 filled_weaker_below depth regs _ x y h = h
 
 -- a shape of these registers alone
-abbrev taken : List Kind → Shape
-taken regs = record { registers = regs; fields = []; entries = []; states = 0; delivery = Here }
+abbrev taken : List Kind → AbstractState
+taken regs = record { registers = regs; fields = []; entries = []; states = 0; message_state = Here }
 
 module _ (p : Image) (t : Typing) (fr : Frame) (ls : List Layer) (depth : ℕ) (deep : length (tasks_of ls) < depth) where
   -- the place of the caller's register, and of the register of the method called
@@ -69,80 +69,80 @@ module _ (p : Image) (t : Typing) (fr : Frame) (ls : List Layer) (depth : ℕ) (
   upper i = Register depth i
 
   -- what is claimed with these registers filled at that depth over the caller
-  abbrev pub filling : (Place → Kind) → List Kind → Shape → Place → Kind
-  filling d regs sh r = filled_with depth regs r (claim p d (Method fr sh ∷ ls) r)
+  abbrev pub field_state : (Place → Kind) → List Kind → AbstractState → Place → Kind
+  field_state d regs sh r = filled_with depth regs r (claim p d (Method fr sh ∷ ls) r)
 
   -- these registers are filled, and the caller is as that state says
-  pub record Passed (cs : List Cell) (sh : Shape) (regs : List Kind) (ws : List (Option ℤ)) : Type 0 where
-    pub fits : (r : Place) → Fits p (seen cs) (held cs r) (filling (declared p cs) regs sh r)
-    pub suits : AllSuit p cs (Method fr sh ∷ ls)
-    pub tidy : Tidy cs
+  pub record Passed (cs : List Cell) (sh : AbstractState) (regs : List Kind) (ws : List (Option ℤ)) : Type 0 where
+    pub fits : (r : Place) → Fits p (seen cs) (held cs r) (field_state (declared p cs) regs sh r)
+    pub conforms_to : AllConformTo p cs (Method fr sh ∷ ls)
+    pub no_duplicates : NoDuplicates cs
     pub words : (i : ℕ) → WordFits (word fr i) (register sh i)
     pub given : (i : ℕ) → WordFits (at None ws i) (at Unset regs i)
-    pub housed : IsHoused p cs ls fr.home
-    pub stack : Stack p t cs (Returns fr.method fr.home) ls
+    pub receiver_held : ReceiverIsHeld p cs ls fr.receiver
+    pub stack : Stack p t cs (Returns fr.method fr.receiver) ls
     pub even : length ws ≡ length regs
 
   -- at first none is
-  pub none_passed : (cs : List Cell) (sh : Shape) → Good p t cs (Method fr sh ∷ ls) → Passed cs sh [] []
+  pub none_passed : (cs : List Cell) (sh : AbstractState) → Good p t cs (Method fr sh ∷ ls) → Passed cs sh [] []
   none_passed cs sh g =
-      record { fits = fits; suits = g.suits; tidy = g.tidy; words = g.stack.1.words; given = λ i. tt; housed = g.stack.2; stack = g.stack.4; even = refl }
+      record { fits = fits; conforms_to = g.conforms_to; no_duplicates = g.no_duplicates; words = g.stack.1.words; given = λ i. tt; receiver_held = g.stack.2; stack = g.stack.4; even = refl }
     where
-      fits : (r : Place) → Fits p (seen cs) (held cs r) (filling (declared p cs) [] sh r)
+      fits : (r : Place) → Fits p (seen cs) (held cs r) (field_state (declared p cs) [] sh r)
       fits r = grind (arith, nat_tests, fits_unowning p, claim_register_above p cs (Method fr sh ∷ ls), eqb-true)
 
   -- the next register of the method called owns nothing
-  next_free : (cs : List Cell) (sh : Shape) (regs : List Kind) (ws : List (Option ℤ)) → Passed cs sh regs ws → held cs (upper (length regs)) ≡ None
+  next_free : (cs : List Cell) (sh : AbstractState) (regs : List Kind) (ws : List (Option ℤ)) → Passed cs sh regs ws → held cs (upper (length regs)) ≡ None
   next_free cs sh regs ws g = grind (arith, nat_tests, fits_unowning p, eq-eqb depth, at_end Unset regs)
 
   -- a register of the caller is claimed anew below the method called
-  pub under : (d : Place → Kind) (sh : Shape) (regs : List Kind) (a : ℕ) (v : Kind) (r : Place) →
-      filling d regs (set_register sh a v) r ≡ changed (filling d regs sh) (lower a) v r
+  pub under : (d : Place → Kind) (sh : AbstractState) (regs : List Kind) (a : ℕ) (v : Kind) (r : Place) →
+      field_state d regs (set_register sh a v) r ≡ changed (field_state d regs sh) (lower a) v r
   under d sh regs a v r = grind (arith, nat_tests, ne_eqb, eqb-true, claim-set_register p d fr sh ls a v, claim-set_register p d fr sh ls a v r)
 
   -- one more register is filled
-  over : (d : Place → Kind) (sh : Shape) (regs : List Kind) (v : Kind) (r : Place) →
-      filling d (regs ++ v ∷ []) sh r ≡ changed (filling d regs sh) (upper (length regs)) v r
-  over d sh regs v r = grind (arith, nat_tests, put_at_end Unset regs v, at-put_at Unset regs)
+  over : (d : Place → Kind) (sh : AbstractState) (regs : List Kind) (v : Kind) (r : Place) →
+      field_state d (regs ++ v ∷ []) sh r ≡ changed (field_state d regs sh) (upper (length regs)) v r
+  over d sh regs v r = grind (arith, nat_tests, put_at_end Unset regs v, at-set_extending Unset regs)
 
   given_more : (regs : List Kind) (ws : List (Option ℤ)) (k : Kind) (w : Option ℤ) → length ws ≡ length regs →
       ((i : ℕ) → WordFits (at None ws i) (at Unset regs i)) → WordFits w k → (i : ℕ) → WordFits (at None (ws ++ w ∷ []) i) (at Unset (regs ++ k ∷ []) i)
   given_more regs ws k w even given new i = rw (put_at_end Unset regs k) at (rw
-      (ap (λ n. put_at None ws n w) (sym even) ∙ put_at_end None ws w) at (words_set ws (taken regs) (length regs) w k given new i))
+      (ap (λ n. set_extending None ws n w) (sym even) ∙ put_at_end None ws w) at (words_set ws (taken regs) (length regs) w k given new i))
 
   even_more : (regs : List Kind) (ws : List (Option ℤ)) (k : Kind) (w : Option ℤ) → length ws ≡ length regs → length (ws ++ w ∷ []) ≡ length (regs ++ k ∷ [])
   even_more regs ws k w even = length_more ws w ∙ ap suc even ∙ sym (length_more regs k)
 
   -- a word is copied
-  word_passed : (cs : List Cell) (sh : Shape) (regs : List Kind) (ws : List (Option ℤ)) (w : Option ℤ) → WordFits w Word → Passed cs sh regs ws →
+  word_passed : (cs : List Cell) (sh : AbstractState) (regs : List Kind) (ws : List (Option ℤ)) (w : Option ℤ) → WordFits w Word → Passed cs sh regs ws →
       Passed cs sh (regs ++ Word ∷ []) (ws ++ w ∷ [])
   word_passed cs sh regs ws w new g = record {
     fits = λ r. subst (λ k. Fits p (seen cs) (held cs r) k) (sym (over (declared p cs) sh regs Word r)) (go r (same_place (upper (length regs)) r) refl);
-    suits = g.suits;
-    tidy = g.tidy;
+    conforms_to = g.conforms_to;
+    no_duplicates = g.no_duplicates;
     words = g.words;
     given = given_more regs ws Word w g.even g.given new;
-    housed = g.housed;
+    receiver_held = g.receiver_held;
     stack = g.stack;
     even = even_more regs ws Word w g.even;
   }
     where
-      go : (r : Place) (b : Bool) → same_place (upper (length regs)) r ≡ b → Fits p (seen cs) (held cs r) (cond b Word (filling (declared p cs) regs sh r))
+      go : (r : Place) (b : Bool) → same_place (upper (length regs)) r ≡ b → Fits p (seen cs) (held cs r) (cond b Word (field_state (declared p cs) regs sh r))
       go r x e = grind (arith, nat_tests, same_place-true, next_free cs sh regs ws g)
 
   -- an object moves
-  object_passed : (cs : List Cell) (sh : Shape) (regs : List Kind) (ws : List (Option ℤ)) (a : ℕ) (k : Kind) → register sh a ≡ k → is_object_or_null k ≡ true →
+  object_passed : (cs : List Cell) (sh : AbstractState) (regs : List Kind) (ws : List (Option ℤ)) (a : ℕ) (k : Kind) → register sh a ≡ k → is_object_or_null k ≡ true →
       Passed cs sh regs ws → Passed (moved (lower a) (upper (length regs)) cs) (set_register sh a Null) (regs ++ k ∷ []) (ws ++ None ∷ [])
   object_passed cs sh regs ws a k here object g = record {
-    fits = λ r. subst (λ d. Fits p (seen cs') (held cs' r) (filling d (regs ++ k ∷ []) (set_register sh a Null) r)) (sym (declared_moved p cs q to))
-        (keep_fits p (seen cs) (seen cs') before (filling (declared p cs) (regs ++ k ∷ []) (set_register sh a Null)) q to
+    fits = λ r. subst (λ d. Fits p (seen cs') (held cs' r) (field_state d (regs ++ k ∷ []) (set_register sh a Null) r)) (sym (declared_moved p cs q to))
+        (keep_fits p (seen cs) (seen cs') before (field_state (declared p cs) (regs ++ k ∷ []) (set_register sh a Null)) q to
         (λ r. held_moved cs q to r free) (requested_moved cs q to) claims (λ r x e f j. refl) g.fits r);
-    suits = all_moved p cs q to (Method fr sh ∷ ls) g.suits;
-    tidy = tidy_moved cs q to free g.tidy;
+    conforms_to = all_moved p cs q to (Method fr sh ∷ ls) g.conforms_to;
+    no_duplicates = tidy_moved cs q to free g.no_duplicates;
     words = words_null fr.words sh a g.words (word_of_object (word fr a) (register sh a) (ap is_object_or_null here ∙ object) (g.words a));
     given = given_more regs ws k None g.even g.given (no_word_fits k object);
-    housed = housed_relocated p cs q to ls fr.home free (omega arith) (omega arith) (λ o from e. (tt, tt)) g.housed;
-    stack = stack_moved p t cs q to ls (Returns fr.method fr.home) free (omega arith) (omega arith) g.stack;
+    receiver_held = receiver_held_relocated p cs q to ls fr.receiver free (omega arith) (omega arith) (λ o from e. (tt, tt)) g.receiver_held;
+    stack = stack_moved p t cs q to ls (Returns fr.method fr.receiver) free (omega arith) (omega arith) g.stack;
     even = even_more regs ws k None g.even;
   }
     where
@@ -159,40 +159,40 @@ module _ (p : Image) (t : Typing) (fr : Frame) (ls : List Layer) (depth : ℕ) (
       free = next_free cs sh regs ws g
 
       before : Place → Kind
-      before = filling (declared p cs) regs sh
+      before = field_state (declared p cs) regs sh
 
       at_source : before q ≡ k
       at_source = grind (arith, nat_tests, q, ne_eqb depth, claim_register p)
 
-      claims : (r : Place) → filling (declared p cs) (regs ++ k ∷ []) (set_register sh a Null) r ≡ changed (changed before q Null) to (before q) r
+      claims : (r : Place) → field_state (declared p cs) (regs ++ k ∷ []) (set_register sh a Null) r ≡ changed (changed before q Null) to (before q) r
       claims r = over (declared p cs) (set_register sh a Null) regs k r ∙ ap (λ x. cond (same_place to r) k x) (under (declared p cs) sh regs a Null r)
           ∙ ap (λ x. changed (changed before q Null) to x r) (sym at_source)
 
   -- the last register is taken for another kind
-  wider_passed : (cs : List Cell) (sh : Shape) (regs : List Kind) (ws : List (Option ℤ)) (k v : Kind) → Widens p k v → length ws ≡ length regs →
+  wider_passed : (cs : List Cell) (sh : AbstractState) (regs : List Kind) (ws : List (Option ℤ)) (k v : Kind) → Widens p k v → length ws ≡ length regs →
       ((i : ℕ) → WordFits (at None ws i) (at Unset regs i)) → Passed cs sh (regs ++ k ∷ []) (ws ++ None ∷ []) → Passed cs sh (regs ++ v ∷ []) (ws ++ None ∷ [])
   wider_passed cs sh regs ws k v wide even given g = record {
     fits = grind (arith, nat_tests, over);
-    suits = g.suits;
-    tidy = g.tidy;
+    conforms_to = g.conforms_to;
+    no_duplicates = g.no_duplicates;
     words = g.words;
     given = given_more regs ws v None even given wide.word;
-    housed = g.housed;
+    receiver_held = g.receiver_held;
     stack = g.stack;
     even = even_more regs ws v None even;
   }
     where
-      go : (r : Place) (b : Bool) → same_place (upper (length regs)) r ≡ b → Fits p (seen cs) (held cs r) (cond b k (filling (declared p cs) regs sh r)) →
-          Fits p (seen cs) (held cs r) (cond b v (filling (declared p cs) regs sh r))
+      go : (r : Place) (b : Bool) → same_place (upper (length regs)) r ≡ b → Fits p (seen cs) (held cs r) (cond b k (field_state (declared p cs) regs sh r)) →
+          Fits p (seen cs) (held cs r) (cond b v (field_state (declared p cs) regs sh r))
       go r x e f = grind arith
 
   -- what the rule says of the later arguments, once one has moved
-  each_kept : (xs : List Argument) (sh : Shape) (a j : ℕ) → a < j → AllTrue (each_argument p sh xs j) → AllTrue (each_argument p (set_register sh a Null) xs j)
+  each_kept : (xs : List Argument) (sh : AbstractState) (a j : ℕ) → a < j → AllTrue (each_argument p sh xs j) → AllTrue (each_argument p (set_register sh a Null) xs j)
   each_kept [] sh a j lt h = tt
-  each_kept (x ∷ xs) sh a j lt h = grind (arith, nat_tests, all_parts, at-put_at Unset sh.registers a j Null, ne_eqb a j, all_join, each_kept xs sh a)
+  each_kept (x ∷ xs) sh a j lt h = grind (arith, nat_tests, all_parts, at-set_extending Unset sh.registers a j Null, ne_eqb a j, all_join, each_kept xs sh a)
 
   -- all of them
-  pub all_passed : (ts : State) (xs : List Argument) (first to : ℕ) (cs : List Cell) (sh : Shape) (regs : List Kind) (ws : List (Option ℤ)) →
+  pub all_passed : (ts : State) (xs : List Argument) (first to : ℕ) (cs : List Cell) (sh : AbstractState) (regs : List Kind) (ws : List (Option ℤ)) →
       to ≡ length regs → AllTrue (each_argument p sh xs first) → Passed cs sh regs ws → Passed (passed_cells p fr (tasks_of ls) ts depth xs first to cs)
       (arguments_moved xs first sh) (regs ++ map argument_kind xs) (ws ++ passed_words p fr (tasks_of ls) ts xs first)
   all_passed s [] first to cs sh regs ws e n g = rw (append-nil ws) (rw (append-nil regs) g)
@@ -214,10 +214,10 @@ module _ (p : Image) (t : Typing) (fr : Frame) (ls : List Layer) (depth : ℕ) (
       rw (append_assoc ws (None ∷ [])
       (passed_words p fr (tasks_of ls) s xs (suc first))) at (rw (append_assoc regs (Own x Ready ∷ []) (map argument_kind xs)) at rest)
 
-module _ (p : Image) (t : Typing) (c : Choice) (s : State) (fr : Frame) (sh : Shape) (ls : List Layer) (at_hand : At p t s fr sh ls) where
+module _ (p : Image) (t : Typing) (c : Choice) (s : State) (fr : Frame) (sh : AbstractState) (ls : List Layer) (has_task : At p t s fr sh ls) where
   -- each argument is as the machine needs it
   pub each_met : (xs : List Argument) (first : ℕ) → AllTrue (each_argument p sh xs first) → AllTrue (needs_each p fr (tasks_of ls) s xs first)
   each_met [] first n = tt
-  each_met (Takes_word ∷ xs) first n = ((word_is p s (word fr first) (register sh first) n.0 (at_hand.good.stack.1.words first)).0, each_met xs (suc first) n.1)
+  each_met (Takes_word ∷ xs) first n = ((word_is p s (word fr first) (register sh first) n.0 (has_task.good.stack.1.words first)).0, each_met xs (suc first) n.1)
   each_met (Takes_own x ∷ xs) first n =
-      grind (arith, nat_tests, own_widens p x, held_thing p s x, kind_fits p t c s fr sh ls at_hand first, word_of_object, each_met xs)
+      grind (arith, nat_tests, own_widens p x, held_thing p s x, kind_fits p t c s fr sh ls has_task first, word_of_object, each_met xs)

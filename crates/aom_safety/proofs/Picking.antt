@@ -16,15 +16,15 @@ use Rattle.aom_roles.specs.Roles.{is_cancel, is_service}
 use Rattle.aom_roles.specs.Classes.{is_session, is_session_in, is_session_kind, sessions_at, sessions_in, sessions_of}
 use Rattle.aom_roles.specs.Shapes.{kind_of}
 use Rattle.aom_roles.specs.States.{idle, states_of}
-use Rattle.aom_rules.specs.Typing.{IsTyped, Typing}
-use Rattle.aom_shape.specs.Arguments.{argument_kind, before_of, entry_fields}
-use Rattle.aom_shape.specs.Kinds.{filled, is_ready_kind}
+use Rattle.aom_typing_rules.specs.Typing.{IsTyped, Typing}
+use Rattle.aom_abstract_state.specs.Arguments.{argument_kind, before_of, entry_fields}
+use Rattle.aom_abstract_state.specs.Kinds.{filled, is_ready_kind}
 use Rattle.aom_roles.specs.Tables.{at}
-use Rattle.aom_roles.specs.Things.{holder_by, stands_for}
-use Rattle.aom_shape.specs.declared.kind.Age.TheVariants.{Ready}
-use Rattle.aom_shape.specs.declared.kind.Filling.TheVariants.{Full, Perhaps}
-use Rattle.aom_shape.specs.declared.kind.Kind.{Kind}
-use Rattle.aom_shape.specs.declared.kind.Kind.TheVariants.{Null, Own, Unset}
+use Rattle.aom_roles.specs.Things.{holder_by, is_subtype}
+use Rattle.aom_abstract_state.specs.declared.kind.InitState.TheVariants.{Ready}
+use Rattle.aom_abstract_state.specs.declared.kind.FieldState.TheVariants.{Full, Perhaps}
+use Rattle.aom_abstract_state.specs.declared.kind.Kind.{Kind}
+use Rattle.aom_abstract_state.specs.declared.kind.Kind.TheVariants.{Null, Own, Unset}
 use Rattle.aom_safety.proofs.Attending.{with_message}
 use Rattle.aom_safety.proofs.Chains.{chain}
 use Rattle.aom_safety.proofs.Claimed.{declared_moved, declared_ready}
@@ -32,9 +32,9 @@ use Rattle.aom_safety.proofs.ClientsFit.{by_server, connecting_only}
 use Rattle.aom_safety.proofs.ClientsGone.{open_server}
 use Rattle.aom_safety.proofs.Destroying.{at_alike}
 use Rattle.aom_safety.proofs.Entering.{Entering, enters}
-use Rattle.aom_safety.proofs.Housing.{houses_same}
+use Rattle.aom_safety.proofs.ReceiverHolding.{receiver_conforms_same}
 use Rattle.aom_safety.proofs.SemanticsLemmas.{held_lives, held_moved, named_moved, requested_moved, tidy_moved, transfer}
-use Rattle.aom_safety.proofs.Housing.{stands_session}
+use Rattle.aom_safety.proofs.ReceiverHolding.{stands_session}
 use Rattle.aom_safety.proofs.Owners.{rank}
 use Rattle.aom_safety.proofs.Services.{held_served, named_served, requested_served, service_here, service_moved, tidy_served}
 use Rattle.aom_safety.proofs.Signals.{at_rest, items_at_rest}
@@ -44,47 +44,47 @@ use Rattle.aom_safety.specs.Claims.{Dispatching, Layer, Mark, claim, declared, d
 use Rattle.aom_semantics.specs.Clients.{client_at}
 use Rattle.aom_semantics.specs.Requests.{part_of}
 use Rattle.aom_safety.specs.Kept.{ClientsFit, QueueFits}
-use Rattle.aom_safety.specs.Laws.{IsAcceptor, IsAttendant, IsWired}
+use Rattle.aom_safety.specs.Laws.{IsAcceptor, IsServiceMethod, IsWired}
 use Rattle.aom_semantics.specs.Places.{Asked, Cell, Connect_of, Elsewhere, Field, In_service, Message_of, Object, Place, Queued}
-use Rattle.aom_semantics.specs.Places.{Request, Session, Sight, Tidy, held, moved, named, requested, seen, service_of}
-use Rattle.aom_safety.specs.Requests.{Known, Suits, resting_in, rests_in, thing_kind}
+use Rattle.aom_semantics.specs.Places.{Request, Session, CellView, NoDuplicates, held, moved, named, requested, seen, service_of}
+use Rattle.aom_safety.specs.Requests.{Known, ConformsTo, resting_in, rests_in, thing_kind}
 use Rattle.aom_semantics.specs.Servers.{has_message, has_session, is_message, is_server, of_class, session_class}
 use Rattle.aom_semantics.specs.Servers.{message_thing, reserved, rest_of, session_thing, taken_first}
-use Rattle.aom_semantics.specs.State.{A_mark, Accepts, Inside, Of_server, Serves, Seat, State, frame_of, thing_holder}
-use Rattle.aom_safety.specs.WellTyped.{AllSit, Fits, Good, Keeps, SitsIn, SomeSits, WellTyped}
+use Rattle.aom_semantics.specs.State.{A_mark, Accepts, Inside, Of_server, Serves, OwnedObject, State, frame_of, thing_holder}
+use Rattle.aom_safety.specs.WellTyped.{IsOwnedChain, Fits, Good, PreservesTyping, OwnedWithin, SomeOwned, WellTyped}
 use Rattle.aom_semantics.specs.World.{accepting, attended, message_words, serving, taken_from}
 
 -- what is ready fits whatever is asked for
-pub fits_ready : (p : Image) (h h' : Sight) (o : Option Object) (k : Kind) → is_ready_kind k ≡ true → Fits p h o k → Fits p h' o k
+pub fits_ready : (p : Image) (h h' : CellView) (o : Option Object) (k : Kind) → is_ready_kind k ≡ true → Fits p h o k → Fits p h' o k
 fits_ready p h h' o k ready f = grind arith
 
 -- seats stay where places and names do
-pub sits_same : (cs cs' : List Cell) → ((q : Place) → held cs' q ≡ held cs q) → ((n : ℕ) → named cs' n ≡ named cs n) → (xs : List Seat) →
-    AllSit cs xs → AllSit cs' xs
+pub sits_same : (cs cs' : List Cell) → ((q : Place) → held cs' q ≡ held cs q) → ((n : ℕ) → named cs' n ≡ named cs n) → (xs : List OwnedObject) →
+    IsOwnedChain cs xs → IsOwnedChain cs' xs
 sits_same cs cs' places names [] s = tt
 sits_same cs cs' places names (x ∷ xs) s = ((places x.place ∙ s.0.0, names x.object.name ∙ s.0.1, s.0.2, s.0.3), sits_same cs cs' places names xs s.1)
 
 -- a server rests idle
-pub suits_serving : (k : Option ClassKind) (r : Request) → is_some (sessions_in k) ≡ true → Suits k (resting_in (states_of k)) (Some r) →
-    Suits k (resting_in idle) (Some r)
+pub conforms_to_serving : (k : Option ClassKind) (r : Request) → is_some (sessions_in k) ≡ true → ConformsTo k (resting_in (states_of k)) (Some r) →
+    ConformsTo k (resting_in idle) (Some r)
 unfolding sessions_in sessions_of states_of
-suits_serving k r e s = grind arith
+conforms_to_serving k r e s = grind arith
 
 -- a session is not enlisted
-pub suits_session : (p : Image) (c : ℕ) (n : ℕ) (known : Known) (r : Option Request) → is_session p c ≡ true → Suits (thing_kind p (An_object_of c)) known r →
-    Suits (thing_kind p (An_object_of c)) (resting_in n) r
+pub conforms_to_session : (p : Image) (c : ℕ) (n : ℕ) (known : Known) (r : Option Request) → is_session p c ≡ true → ConformsTo (thing_kind p (An_object_of c)) known r →
+    ConformsTo (thing_kind p (An_object_of c)) (resting_in n) r
 unfolding kind_of is_session_in is_session_kind
-suits_session p c n known r e s = grind (arith, nat_tests)
+conforms_to_session p c n known r e s = grind (arith, nat_tests)
 
 -- what a place owns is there
-pub own_held : (p : Image) (h : Sight) (o : Option Object) (x : Thing) → Fits p h o (Own x Ready) → (y : Object) × (o ≡ Some y) × (stands_for p y.thing x ≡ true)
+pub own_held : (p : Image) (h : CellView) (o : Option Object) (x : Thing) → Fits p h o (Own x Ready) → (y : Object) × (o ≡ Some y) × (is_subtype p y.thing x ≡ true)
 own_held p h o x f = grind arith
 
 pub plain_message : (d : Place → Kind) (r : Place) → with_message false d r ≡ d r
 plain_message d x = grind arith
 
 module _ (p : Image) (t : Typing) (wired : IsWired p) (typed : IsTyped p t) (s : State) (w : WellTyped p t s)
-    (idle_now : s.tasks ≡ []) (fit : ClientsFit p s.clients s.cells) (x : Seat) (r : Request) (there : held s.cells x.place ≡ Some x.object)
+    (idle_now : s.tasks ≡ []) (fit : ClientsFit p s.clients s.cells) (x : OwnedObject) (r : Request) (there : held s.cells x.place ≡ Some x.object)
     (lives : named s.cells x.object.name ≡ Some x.object) (asked : requested s.cells x.object.name ≡ Some r) (server : is_server p x.object.thing ≡ true) where
   abbrev n : ℕ
   n = x.object.name
@@ -112,24 +112,24 @@ module _ (p : Image) (t : Typing) (wired : IsWired p) (typed : IsTyped p t) (s :
   pub requested_now : (m : ℕ) → requested cs m ≡ requested s.cells m
   requested_now m = requested_served s.cells n (taken_first (service_of s.cells n)) m
 
-  pub tidy_now : Tidy cs
-  tidy_now = tidy_served s.cells n (taken_first (service_of s.cells n)) good.tidy
+  pub tidy_now : NoDuplicates cs
+  tidy_now = tidy_served s.cells n (taken_first (service_of s.cells n)) good.no_duplicates
 
   pub sessions_now : (m c : ℕ) → has_session (service_of cs m) c ≡ has_session (service_of s.cells m) c
   sessions_now m c = by_server s.cells x.object lives taken_first (λ m v. has_session v c ≡ has_session (service_of s.cells m) c) refl (λ m other. refl) m
 
-  pub sits : (above : List Seat) × AllSit s.cells (x ∷ above)
-      × ((y : Object) → named s.cells y.name ≡ Some y → rank p wired y.thing < rank p wired x.object.thing → SomeSits y.name (x ∷ above) → ⊥)
-  sits = chain p t wired s w idle_now x.place x.object there (subst (λ y. 0 < rank p wired y) (sym its_class.2) (omega arith))
+  pub is_owned_chain : (above : List OwnedObject) × IsOwnedChain s.cells (x ∷ above)
+      × ((y : Object) → named s.cells y.name ≡ Some y → rank p wired y.thing < rank p wired x.object.thing → SomeOwned y.name (x ∷ above) → ⊥)
+  is_owned_chain = chain p t wired s w idle_now x.place x.object there (subst (λ y. 0 < rank p wired y) (sym its_class.2) (omega arith))
 
-  abbrev pub above : List Seat
-  above = sits.0
+  abbrev pub above : List OwnedObject
+  above = is_owned_chain.0
 
-  pub sits_now : AllSit cs (x ∷ above)
-  sits_now = sits_same s.cells cs held_now named_now (x ∷ above) sits.1
+  pub sits_now : IsOwnedChain cs (x ∷ above)
+  sits_now = sits_same s.cells cs held_now named_now (x ∷ above) is_owned_chain.1
 
-  pub suits_now : (y : Object) → named cs y.name ≡ Some y → Suits (thing_kind p y.thing) (resting_in (rests_in p y)) (requested cs y.name)
-  suits_now y there = rw (requested_now y.name) (good.suits y (sym (named_now y.name) ∙ there))
+  pub conforms_to_now : (y : Object) → named cs y.name ≡ Some y → ConformsTo (thing_kind p y.thing) (resting_in (rests_in p y)) (requested cs y.name)
+  conforms_to_now y there = rw (requested_now y.name) (good.conforms_to y (sym (named_now y.name) ∙ there))
 
   -- ---- where the first is no message, all is declared as before
 
@@ -186,12 +186,12 @@ module _ (p : Image) (t : Typing) (wired : IsWired p) (typed : IsTyped p t) (s :
       past = refl;
       stack = ((it.gives, tt, ap is_cancel it.role), grind (arith, nat_tests, session, sits_now, requested_now, sessions_now, connecting_only));
       fits = λ q. rw (plain_message (declared p cs) q) (fits_now (Connect_of client) es queue (λ k. refl) q);
-      own = rw it.begins (grind (arith, nat_tests, requested_now, suits_serving));
-      others = λ z there other. suits_now z there;
-      tidy = tidy_now;
-      sits = sits_now;
+      own = rw it.begins (grind (arith, nat_tests, requested_now, conforms_to_serving));
+      others = λ z there other. conforms_to_now z there;
+      no_duplicates = tidy_now;
+      is_owned_chain = sits_now;
       there = it.there;
-      holder = houses_same p _ _ (ap thing_holder its_class.2
+      holder = receiver_conforms_same p _ _ (ap thing_holder its_class.2
           ∙ sym (ap (λ z. holder_by z (method_class p its_method.0)) it.role ∙ ap (λ k. holder_by (Some Accepts_role) k) it.class));
       plain = ap is_cancel it.role;
       words = λ i. rw it.arguments tt;
@@ -204,10 +204,10 @@ module _ (p : Image) (t : Typing) (wired : IsWired p) (typed : IsTyped p t) (s :
 
     accept_well : WellTyped p t then
     accept_well = enters p t typed cs x above over its_method.0 [] entering then
-        (length (A_mark ∷ s.items)) (ap (λ is. length (A_mark ∷ is)) no_items) refl refl (ap (λ is. forms (A_mark ∷ is)) no_items) w.undos
+        (length (A_mark ∷ s.items)) (ap (λ is. length (A_mark ∷ is)) no_items) refl refl (ap (λ is. forms (A_mark ∷ is)) no_items) w.undo_operations
 
-    pub accepts_well : Keeps p t (accepting (part_of p Accepts_role x.object.thing) x client (taken_from n s))
-    accepts_well = subst (λ h. Keeps p t (accepting h x client (taken_from n s))) (sym its_method.1) accept_well
+    pub accepts_well : PreservesTyping p t (accepting (part_of p Accepts_role x.object.thing) x client (taken_from n s))
+    accepts_well = subst (λ h. PreservesTyping p t (accepting h x client (taken_from n s))) (sym its_method.1) accept_well
 
   -- ---- the session of a client
 
@@ -216,7 +216,7 @@ module _ (p : Image) (t : Typing) (wired : IsWired p) (typed : IsTyped p t) (s :
     unfolding kind_of
     session_now = ap (λ y. of_class (session_class p y)) its_class.2 ∙ ap of_class its_class.3
 
-    pub its_session : (z : Object) × (held s.cells (Elsewhere (Session n client)) ≡ Some z) × (stands_for p z.thing (An_object_of its_class.1) ≡ true)
+    pub its_session : (z : Object) × (held s.cells (Elsewhere (Session n client)) ≡ Some z) × (is_subtype p z.thing (An_object_of its_class.1) ≡ true)
     its_session = own_held p (seen s.cells) (held s.cells (Elsewhere (Session n client))) (An_object_of its_class.1)
         (rw (ap (λ b. cond b (filled (session_thing p (named s.cells n)) Full) Null) has_now
         ∙ ap (λ y. filled (session_thing p y) Full) lives ∙ ap (λ y. filled y Full) session_now) at (good.fits (Elsewhere (Session n client))))
@@ -225,7 +225,7 @@ module _ (p : Image) (t : Typing) (wired : IsWired p) (typed : IsTyped p t) (s :
     session_is = stands_session p wired.family its_class.0 its_class.1 its_class.3 its_session.0.thing its_session.2
 
     pub session_lives : named s.cells its_session.0.name ≡ Some its_session.0
-    session_lives = held_lives s.cells (Elsewhere (Session n client)) its_session.0 good.tidy its_session.1
+    session_lives = held_lives s.cells (Elsewhere (Session n client)) its_session.0 good.no_duplicates its_session.1
 
     pub session_lower : rank p wired its_session.0.thing < rank p wired x.object.thing
     session_lower = grind (arith, nat_tests, rank p wired, rank p wired x.object.thing, session_is)
@@ -247,7 +247,7 @@ module _ (p : Image) (t : Typing) (wired : IsWired p) (typed : IsTyped p t) (s :
     message_now : message_thing p (Some x.object) ≡ Some Message
     message_now = ap (λ b. cond b (Some Message) None) server
 
-    abbrev session_there : (z : Object) × (held s.cells (Elsewhere (Session n client)) ≡ Some z) × (stands_for p z.thing (An_object_of its_class.1) ≡ true)
+    abbrev session_there : (z : Object) × (held s.cells (Elsewhere (Session n client)) ≡ Some z) × (is_subtype p z.thing (An_object_of its_class.1) ≡ true)
     session_there = its_session client has_now
 
     abbrev z : Object
@@ -263,7 +263,7 @@ module _ (p : Image) (t : Typing) (wired : IsWired p) (typed : IsTyped p t) (s :
     waits : has_message (service_of s.cells n) m ≡ true
     waits = ap (λ q. list_any (λ e. is_message m e) q) queue ∙ ap (λ b. b || list_any (λ e. is_message m e) es) (eq-eqb m m refl)
 
-    its_message : (y : Object) × (held s.cells (Elsewhere (Queued n m)) ≡ Some y) × (stands_for p y.thing Message ≡ true)
+    its_message : (y : Object) × (held s.cells (Elsewhere (Queued n m)) ≡ Some y) × (is_subtype p y.thing Message ≡ true)
     its_message = own_held p (seen s.cells) (held s.cells (Elsewhere (Queued n m))) Message
         (rw (ap (λ b. cond b (filled (message_thing p (named s.cells n)) Full) Null) waits
         ∙ ap (λ y. filled (message_thing p y) Full) lives ∙ ap (λ y. filled y Full) message_now) at (good.fits (Elsewhere (Queued n m))))
@@ -325,34 +325,34 @@ module _ (p : Image) (t : Typing) (wired : IsWired p) (typed : IsTyped p t) (s :
     requested_served_so i = requested_moved cs (Elsewhere (Queued n m)) (Elsewhere In_service) i ∙ requested_now i
 
     -- who sits stays
-    sits_served : (xs : List Seat) → AllSit cs xs → AllSit served xs
+    sits_served : (xs : List OwnedObject) → IsOwnedChain cs xs → IsOwnedChain served xs
     sits_served [] h = tt
     sits_served (y ∷ ys) h = ((place y.place h.0.2 ∙ h.0.0, grind (arith, nat_tests, named_moved), h.0.2, h.0.3), sits_served ys h.1)
       where
-        unchanged : (q : Place) → SitsIn q ys → transfer (Elsewhere (Queued n m)) (Elsewhere In_service) (held cs) q ≡ held cs q
+        unchanged : (q : Place) → OwnedWithin q ys → transfer (Elsewhere (Queued n m)) (Elsewhere In_service) (held cs) q ≡ held cs q
         unchanged q e = grind arith
 
-        place : (q : Place) → SitsIn q ys → held served q ≡ held cs q
+        place : (q : Place) → OwnedWithin q ys → held served q ≡ held cs q
         place q e = held_served_so q ∙ unchanged q e
 
-    suits_served : (y : Object) → named served y.name ≡ Some y → Suits (thing_kind p y.thing) (resting_in (rests_in p y)) (requested served y.name)
-    suits_served y there = rw (requested_served_so y.name) (good.suits y (sym (named_served_so y.name) ∙ there))
+    conforms_to_served : (y : Object) → named served y.name ≡ Some y → ConformsTo (thing_kind p y.thing) (resting_in (rests_in p y)) (requested served y.name)
+    conforms_to_served y there = rw (requested_served_so y.name) (good.conforms_to y (sym (named_served_so y.name) ∙ there))
 
     -- ---- its method enters
 
-    its_service : (k : ℕ) × (part_of p Attends_role z.thing ≡ Some k) × IsAttendant p its_class.1 k
+    its_service : (k : ℕ) × (part_of p Attends_role z.thing ≡ Some k) × IsServiceMethod p its_class.1 k
     its_service =
         let k = wired.attendant its_class.0 its_class.1 its_class.3 in
         (k.0, ap (λ y. part_of p Attends_role y) z_thing ∙ k.1, wired.attends its_class.1 k.0 k.1)
 
-    service : IsAttendant p its_class.1 its_service.0
+    service : IsServiceMethod p its_class.1 its_service.0
     service = its_service.2
 
-    abbrev seat : Seat
-    seat = record { object = z; place = Elsewhere (Session n client) }
+    abbrev owned_object : OwnedObject
+    owned_object = record { object = z; place = Elsewhere (Session n client) }
 
-    sits_all : AllSit served (seat ∷ x ∷ above)
-    sits_all = ((grind (arith, nat_tests, held_served_so, held_now), named_served_so z.name ∙ z_lives, inl refl, sits.2 z z_lives (session_lower client has_now)), sits_served (x ∷ above) sits_now)
+    sits_all : IsOwnedChain served (owned_object ∷ x ∷ above)
+    sits_all = ((grind (arith, nat_tests, held_served_so, held_now), named_served_so z.name ∙ z_lives, inl refl, is_owned_chain.2 z z_lives (session_lower client has_now)), sits_served (x ∷ above) sits_now)
 
     abbrev words : List (Option ℤ)
     words = message_words cs m
@@ -363,7 +363,7 @@ module _ (p : Image) (t : Typing) (wired : IsWired p) (typed : IsTyped p t) (s :
     serves_it : serves p its_service.0 ≡ true
     serves_it = ap is_service service.role
 
-    entering_service : Entering p t served seat (x ∷ above) served_over its_service.0 words
+    entering_service : Entering p t served owned_object (x ∷ above) served_over its_service.0 words
     entering_service = record {
       served = true;
       message = serves_it;
@@ -376,14 +376,14 @@ module _ (p : Image) (t : Typing) (wired : IsWired p) (typed : IsTyped p t) (s :
       past = refl;
       stack = ((service.gives, tt, ap is_cancel service.role), (refl, refl, sits_served (x ∷ above) sits_now, (ap is_some (requested_served_so n ∙ asked), above, refl), (server, has_served)));
       fits = fits_served;
-      own = subst (λ y. Suits (thing_kind p y) (resting_in (before_of p its_service.0)) (requested served z.name)) (sym z_thing)
-          (suits_session p its_class.1 (before_of p its_service.0) (resting_in (rests_in p z))
-          (requested served z.name) service.session (grind (arith, nat_tests, z_thing, suits_served, named_served_so, z_lives)));
-      others = λ y there other. suits_served y there;
-      tidy = tidy_moved cs (Elsewhere (Queued n m)) (Elsewhere In_service) free tidy_now;
-      sits = sits_all;
+      own = subst (λ y. ConformsTo (thing_kind p y) (resting_in (before_of p its_service.0)) (requested served z.name)) (sym z_thing)
+          (conforms_to_session p its_class.1 (before_of p its_service.0) (resting_in (rests_in p z))
+          (requested served z.name) service.session (grind (arith, nat_tests, z_thing, conforms_to_served, named_served_so, z_lives)));
+      others = λ y there other. conforms_to_served y there;
+      no_duplicates = tidy_moved cs (Elsewhere (Queued n m)) (Elsewhere In_service) free tidy_now;
+      is_owned_chain = sits_all;
       there = service.there;
-      holder = houses_same p _ _ (ap thing_holder z_thing ∙ sym (grind (arith, nat_tests)));
+      holder = receiver_conforms_same p _ _ (ap thing_holder z_thing ∙ sym (grind (arith, nat_tests)));
       plain = ap is_cancel service.role;
       words = grind (arith, nat_tests);
       free = λ i. subst (λ xs. Fits p (seen served) None (at Unset (map argument_kind xs) i)) (sym service.arguments) (grind arith);
@@ -399,8 +399,8 @@ module _ (p : Image) (t : Typing) (wired : IsWired p) (typed : IsTyped p t) (s :
         (record (taken_from n s) { cells = served })
 
     service_well : WellTyped p t state_served
-    service_well = enters p t typed served seat (x ∷ above) served_over its_service.0 words entering_service state_served
-        (length (A_mark ∷ s.items)) (ap (λ is. length (A_mark ∷ is)) no_items) refl refl (ap (λ is. forms (A_mark ∷ is)) no_items) w.undos
+    service_well = enters p t typed served owned_object (x ∷ above) served_over its_service.0 words entering_service state_served
+        (length (A_mark ∷ s.items)) (ap (λ is. length (A_mark ∷ is)) no_items) refl refl (ap (λ is. forms (A_mark ∷ is)) no_items) w.undo_operations
 
-    pub attends_well : Keeps p t (attended p x client (held s.cells (Elsewhere (Session n client))) m (taken_from n s))
+    pub attends_well : PreservesTyping p t (attended p x client (held s.cells (Elsewhere (Session n client))) m (taken_from n s))
     attends_well = grind (arith, nat_tests, service_well)

@@ -5,31 +5,31 @@ use Rattle.aom_image.specs.Image.{Image}
 use Rattle.aom_image.specs.Views.{instr_at}
 use Rattle.aom_instructions.specs.Table.{action_of, transfer_of}
 use Rattle.aom_instructions.specs.declared.action.Action.TheVariants.{Call, Cancel}
-use Rattle.aom_instructions.specs.declared.action.Manner.TheVariants.{Plain, Trapped as Under_trap}
+use Rattle.aom_instructions.specs.declared.action.CallMode.TheVariants.{Plain, Trapped as Under_trap}
 use Rattle.aom_instructions.specs.declared.instr.Instr.{Instr}
 use Rattle.aom_instructions.specs.declared.instr.Target.{Target}
 use Rattle.aom_instructions.specs.declared.transfer.Transfer.TheVariants.{Repeat}
 use Rattle.aom_image.specs.declared.method.Role.TheVariants.{Destruct, Error}
 use Rattle.aom_image.specs.declared.method.Gives.{Gives}
 use Rattle.aom_roles.specs.Tests.{AllTrue}
-use Rattle.aom_classes.specs.Jumps.{jump_of}
+use Rattle.aom_link_conditions.specs.Jumps.{jump_of}
 use Rattle.aom_safety.proofs.Fitting.{StraightBy, straight_by}
 use Rattle.aom_safety.proofs.Moving.{steps_are_moves}
 use Rattle.aom_semantics.specs.Calls.{below_top, entered, received}
-use Rattle.aom_semantics.specs.Cleanup.{code_told, has_trap, operation_frame, to_trap}
-use Rattle.aom_classes.specs.Roles.{role_of}
+use Rattle.aom_semantics.specs.Cleanup.{code_reported, has_trap, operation_frame, to_trap}
+use Rattle.aom_link_conditions.specs.Roles.{role_of}
 use Rattle.aom_semantics.specs.Destruction.{destructor_frame, begun}
 use Rattle.aom_semantics.specs.Effects.{Calls, Cancels, Counts, Destroys, Destroys_last, Effect, Goes_on, Jumps}
 use Rattle.aom_semantics.specs.Effects.{Leaves, Operates, Repeats, Returns, Sets_trap, applied, with_words}
 use Rattle.aom_semantics.specs.Moves.{counted, dispatch_ends, error_frame, main_ends, needs, step}
 use Rattle.aom_semantics.specs.Places.{Object}
-use Rattle.aom_semantics.specs.State.{Home, Of_server, Accepts, Serves, Parts, A_mark, An_operation, Choice, Destroy, Dispatch}
-use Rattle.aom_semantics.specs.State.{Dispatched, Frame, Goes, Inside, Item, Asks, Of_object, Run, Seat, State, Task, Trapped}
+use Rattle.aom_semantics.specs.State.{Receiver, Of_server, Accepts, Serves, Disconnects, A_mark, An_operation, Choice, Destroy, Dispatch}
+use Rattle.aom_semantics.specs.State.{Dispatched, Frame, Goes, Inside, Item, Asks, Of_object, Run, OwnedObject, State, Task, Trapped}
 use Rattle.aom_semantics.specs.State.{Unwind, counter, frame_as, frame_of, next, set_counter, to_place}
-use Rattle.aom_safety.specs.Steps.{Empties, Acts, Arrives, Clears, Comes_out, Ends, Fits, IsStraight, Move, Rests, Sets, Undoes, Vanishes}
+use Rattle.aom_safety.specs.Steps.{Empties, Acts, Arrives, Clears, Comes_out, Ends, Fits, IsStraight, Move, Rests, Sets, Undoes, Reclaims}
 use Rattle.aom_safety.specs.Tasks.{Below, Holds, TaskLaw}
-use Rattle.aom_semantics.specs.World.{heard_one, Heard, Environment, turn}
-use Rattle.aom_safety.proofs.Turned.{obeys, handles, accepts, attends, parts, commanded_kept, completes, keeps_all, kills, picks, turns_so}
+use Rattle.aom_semantics.specs.World.{observed_one, Observed, Environment, turn}
+use Rattle.aom_safety.proofs.Turned.{executes, handles, accepts, attends, parts, commanded_kept, completes, keeps_all, kills, picks, turns_so}
 use Rattle.aom_semantics.specs.Requests.{cancel_method, part_of}
 
 -- an instruction is at hand, with its needs met
@@ -53,13 +53,13 @@ pub record Kept (p : Image) (c : Choice) (l : TaskLaw) (s : State) : Type 0 wher
   pub calls : (fr : Frame) (ts : List Task) (i : Instr) → Acting p c l s fr ts i → (target : Target) (m first x : ℕ) →
       action_of i ≡ Call Plain target m first x → l.Runs (entered p fr ts (counted p s) target m first (length s.items)) (Run fr ∷ ts)
   pub cancels : (fr : Frame) (ts : List Task) (i : Instr) → Acting p c l s fr ts i → (m : ℕ) → action_of i ≡ Cancel → cancel_method p fr ≡ Some m →
-      l.Runs (frame_as m fr.home fr.view (length s.items)) (Run fr ∷ ts)
+      l.Runs (frame_as m fr.receiver fr.view (length s.items)) (Run fr ∷ ts)
   pub traps : (fr : Frame) (ts : List Task) (i : Instr) → Acting p c l s fr ts i → (target : Target) (m first x : ℕ) →
       action_of i ≡ Call Under_trap target m first x →
       l.Runs (entered p fr ts (counted p s) target m first (length (A_mark ∷ s.items))) (Trapped ∷ Run fr ∷ ts) × l.Stands (Run fr ∷ ts)
   pub destructs : (o : Object) (x m height : ℕ) (ts : List Task) → role_of p x Destruct ≡ Some m → l.Runs (destructor_frame p m o (length ts) height) (Destroy ∷ ts)
   -- an `error` method is asked
-  pub asks : (x : Seat) (m : ℕ) (code : ℤ) (height : ℕ) → part_of p Error x.object.thing ≡ Some m → l.Runs (error_frame m x code height) (Dispatched (Asks x) ∷ [])
+  pub asks : (x : OwnedObject) (m : ℕ) (code : ℤ) (height : ℕ) → part_of p Error x.object.thing ≡ Some m → l.Runs (error_frame m x code height) (Dispatched (Asks x) ∷ [])
   pub undoes : (m : ℕ) (w : ℤ) (items : List Item) (ts : List Task) → s.items ≡ An_operation m w ∷ items → l.Runs (operation_frame m w (length items)) ts
   pub unwinds : (code : ℤ) (ts : List Task) → l.Stands ts → l.Unwinds code (Trapped ∷ ts)
 
@@ -68,8 +68,8 @@ pub receives : (p : Image) (fr : Frame) (ts : List Task) (v : State) (g : Gives)
     received p fr ts v g a x caller ≡ with_words caller (received p fr ts v g a x caller).words
 receives p fr ts v x a y caller = grind arith
 
-pub told : (g : Gives) (x : ℕ) (code : ℤ) (fr : Frame) → code_told g x code fr ≡ with_words fr (code_told g x code fr).words
-told x y code fr = grind arith
+pub reported : (g : Gives) (x : ℕ) (code : ℤ) (fr : Frame) → code_reported g x code fr ≡ with_words fr (code_reported g x code fr).words
+reported x y code fr = grind arith
 
 -- a destruction begins
 module _ (p : Image) (l : TaskLaw) (destructs : (o : Object) (x m height : ℕ) (ts : List Task) →
@@ -93,7 +93,7 @@ module _ (p : Image) (c : Choice) (l : TaskLaw) (s : State) (k : Kept p c l s) w
   ends : (d : Dispatch) → Holds l (dispatch_ends p d (counted p s)).tasks
   ends x = grind (arith, nat_tests, closes)
 
-  module _ (fr : Frame) (ts : List Task) (at_hand : s.tasks ≡ Run fr ∷ ts) (h : Holds l (Run fr ∷ ts)) where
+  module _ (fr : Frame) (ts : List Task) (has_task : s.tasks ≡ Run fr ∷ ts) (h : Holds l (Run fr ∷ ts)) where
     straight : (i : Instr) (e : Effect) → Fits p c fr ts (counted p s) i e → StraightBy p c fr ts (counted p s) i e
     straight = straight_by p c fr ts (counted p s)
 
@@ -119,11 +119,11 @@ module _ (p : Image) (c : Choice) (l : TaskLaw) (s : State) (k : Kept p c l s) w
   kept : (u : State) → Holds l s.tasks → Move p c s u → Holds l u.tasks
   kept u h (Rests still e) = subst (λ v. Holds l v.tasks) (sym e) h
   kept u h (Acts fr ts i e at there met fits same) = grind (arith, nat_tests, acts, there, met)
-  kept u h (Vanishes ts o at there owns same) = subst (λ v. Holds l v.tasks) (sym same) (grind arith)
+  kept u h (Reclaims ts o at there owns same) = subst (λ v. Holds l v.tasks) (sym same) (grind arith)
   kept u h (Empties ts o at there same) = grind (arith, nat_tests)
   kept u h (Clears code ts items o at top there same) = grind (arith, nat_tests, begins_over o)
   kept u h (Undoes code ts items m w at top same) = grind (arith, nat_tests)
-  kept u h (Arrives code fr ts items at top same) = grind (arith, nat_tests, told)
+  kept u h (Arrives code fr ts items at top same) = grind (arith, nat_tests, reported)
   kept u h (Comes_out code d ts items at top same) = subst (λ v. Holds l v.tasks) (sym same) (subst (λ ts. Holds l ts) at h).1.1
   kept u h (Ends d ts at same) = subst (λ v. Holds l v.tasks) (sym same) (ends d)
 
@@ -132,19 +132,19 @@ pub keeps : (p : Image) (c : Choice) (l : TaskLaw) (s u : State) → Kept p c l 
 keeps p c l s u k h e = kept p c l s k u h (steps_are_moves p c s u e)
 
 -- a turn keeps it, where it holds of each method that is dispatched and of each destructor
-pub turn_keeps_it : (p : Image) (outside : Environment) (heard : Heard) (l : TaskLaw) (s u : State) → ((m height : ℕ)
-    (home : Home) (words : List (Option ℤ)) (d : Dispatch) → l.Runs (record (frame_of m home height) { words = words }) (Trapped ∷ Dispatched d ∷ [])) →
+pub turn_keeps_it : (p : Image) (outside : Environment) (observed : Observed) (l : TaskLaw) (s u : State) → ((m height : ℕ)
+    (receiver : Receiver) (words : List (Option ℤ)) (d : Dispatch) → l.Runs (record (frame_of m receiver height) { words = words }) (Trapped ∷ Dispatched d ∷ [])) →
     ((d : Dispatch) → l.Stands (Dispatched d ∷ [])) → ((o : Object) (x m height : ℕ) (ts : List Task) → role_of p x Destruct ≡ Some m →
-    l.Runs (destructor_frame p m o (length ts) height) (Destroy ∷ ts)) → Holds l s.tasks → turn p outside heard s ≡ Goes u → Holds l u.tasks
-turn_keeps_it p outside heard l s u runs stands destructs h e = elim (turns_so p outside heard s u e) as (λ v d. Holds l v.tasks) [
+    l.Runs (destructor_frame p m o (length ts) height) (Destroy ∷ ts)) → Holds l s.tasks → turn p outside observed s ≡ Goes u → Holds l u.tasks
+turn_keeps_it p outside observed l s u runs stands destructs h e = elim (turns_so p outside observed s u e) as (λ v d. Holds l v.tasks) [
   | keeps_all r ↦ h
   | completes code o r other ↦ h
   | kills n r k ↦ h
-  | obeys client command name ↦ subst (λ ts. Holds l ts) (sym (commanded_kept p client (heard_one s) command name).1) h
+  | executes client command name ↦ subst (λ ts. Holds l ts) (sym (commanded_kept p client (observed_one s) command name).1) h
   | picks x v d ↦ elim d as (λ v d. Holds l v.tasks) [
     | handles m at ↦ (runs m (length (A_mark ∷ s.items)) (Inside x.object x.place) [] (Of_object x), (stands (Of_object x), tt))
     | accepts client m at ↦ (grind (arith, nat_tests, runs), (stands (Of_server x client Accepts), tt))
     | attends client message m o there at ↦ (grind (arith, nat_tests, runs), (stands (Of_server x client (Serves o)), tt))
-    | parts client o there ↦ begun_holds p l destructs o (length s.items) (Dispatched (Of_server x client Parts) ∷ []) tt
+    | parts client o there ↦ begun_holds p l destructs o (length s.items) (Dispatched (Of_server x client Disconnects) ∷ []) tt
   ]
 ]

@@ -7,7 +7,7 @@ use Rattle.std.specs.List.{list_any}
 use Rattle.std.specs.Prelude.{filter, ◌++◌}
 use Rattle.aom_clients.specs.declared.client.Client.{Client}
 use Rattle.aom_clients.specs.declared.client.Client.TheVariants.{Unconnected}
-use Rattle.aom_safety.proofs.SemanticsLemmas.{at-put_at}
+use Rattle.aom_safety.proofs.SemanticsLemmas.{at-set_extending}
 use Rattle.aom_semantics.specs.Clients.{client_at, with_client}
 use Rattle.aom_safety.specs.Kept.{EntryFits, QueueFits, asked_again}
 use Rattle.aom_semantics.specs.Places.{Asked, Close_of, Connect_of, Message_of}
@@ -15,10 +15,10 @@ use Rattle.aom_semantics.specs.Places.{Asked, Close_of, Connect_of, Message_of}
 -- ---- one client
 
 pub client_here : (c : ℕ) (to : Client) (clients : List Client) → client_at (with_client c to clients) c ≡ to
-client_here c to clients = at-put_at Unconnected clients c c to ∙ ap (λ b. cond b to (client_at clients c)) (eq-eqb c c refl)
+client_here c to clients = at-set_extending Unconnected clients c c to ∙ ap (λ b. cond b to (client_at clients c)) (eq-eqb c c refl)
 
 pub client_there : (c d : ℕ) (to : Client) (clients : List Client) → (c == d) ≡ false → client_at (with_client c to clients) d ≡ client_at clients d
-client_there c d to clients other = at-put_at Unconnected clients c d to ∙ ap (λ b. cond b to (client_at clients d)) other
+client_there c d to clients other = at-set_extending Unconnected clients c d to ∙ ap (λ b. cond b to (client_at clients d)) other
 
 -- whose entry it is
 abbrev pub client_of : Asked → ℕ

@@ -8,13 +8,13 @@ use Rattle.aom_image.specs.Image.{Image}
 use Rattle.aom_image.specs.Views.{is_quiet}
 use Rattle.aom_instructions.specs.Table.{action_of}
 use Rattle.aom_instructions.specs.declared.action.Action.TheVariants.{Call}
-use Rattle.aom_instructions.specs.declared.action.Manner.TheVariants.{Plain, Trapped as Under_trap}
+use Rattle.aom_instructions.specs.declared.action.CallMode.TheVariants.{Plain, Trapped as Under_trap}
 use Rattle.aom_instructions.specs.declared.instr.Instr.{Instr}
 use Rattle.aom_instructions.specs.declared.instr.Target.{Target}
 use Rattle.aom_roles.specs.Tests.{AllTrue}
-use Rattle.aom_rules.specs.Rules.{rule_needs}
-use Rattle.aom_shape.specs.Shape.{Shape}
-use Rattle.aom_rules.specs.Typing.{IsTyped, Typing, shape_at}
+use Rattle.aom_typing_rules.specs.Rules.{rule_needs}
+use Rattle.aom_abstract_state.specs.AbstractState.{AbstractState}
+use Rattle.aom_typing_rules.specs.Typing.{IsTyped, Typing, shape_at}
 use Rattle.aom_safety.proofs.Callees.{cancel_quiet, only_then}
 use Rattle.aom_safety.proofs.Overriders.{body_quiet}
 use Rattle.aom_safety.proofs.Destroying.{destroys_by}
@@ -27,7 +27,7 @@ use Rattle.aom_safety.specs.Laws.{IsWired}
 use Rattle.aom_semantics.specs.Moves.{step}
 use Rattle.aom_semantics.specs.Owned.{NoneGoes}
 use Rattle.aom_semantics.specs.Places.{Cell}
-use Rattle.aom_safety.specs.Quiet.{CalmKeeps, CaughtOwned, IsCalm, calm, is_clearing}
+use Rattle.aom_safety.specs.Quiet.{QuietPreserved, CaughtOwned, OnlyQuietRun, only_quiet, is_clearing}
 use Rattle.aom_semantics.specs.State.{Choice, Dispatched, Frame, Goes, Run, State, Task, Trapped}
 use Rattle.aom_safety.specs.WellTyped.{Good, WellTyped}
 use Rattle.aom_semantics.specs.World.{boot_state}
@@ -35,12 +35,12 @@ use Rattle.aom_safety.proofs.Layers.{method_layer}
 
 -- the abstract state of the method at hand
 its_shape : (p : Image) (t : Typing) (cs : List Cell) (fr : Frame) (ts : List Task) (ls : List Layer) → Run fr ∷ ts ≡ tasks_of ls → Good p t cs ls →
-    (sh : Shape) × (shape_at t fr.method fr.place ≡ Some sh)
+    (sh : AbstractState) × (shape_at t fr.method fr.place ≡ Some sh)
 its_shape p t cs fr ts ls at good = method_layer (Good p t cs) fr ts ls (sym at) good (λ sh ls _ good. (sh, good.stack.0))
 
 module _ (p : Image) (t : Typing) (wired : IsWired p) (typed : IsTyped p t) (c : Choice) (s : State) (w : WellTyped p t s) where
   -- what the verifier asks of the instruction at hand
-  ruled : (fr : Frame) (ts : List Task) (i : Instr) → Acting p c (calm p) s fr ts i → (sh : Shape) × AllTrue (rule_needs p fr.method fr.place sh i)
+  ruled : (fr : Frame) (ts : List Task) (i : Instr) → Acting p c (only_quiet p) s fr ts i → (sh : AbstractState) × AllTrue (rule_needs p fr.method fr.place sh i)
   ruled fr ts i a =
       let stands = its_shape p t s.cells fr ts w.layers (sym a.tasks ∙ w.tasks) w.good in
       let x = typed.each fr.method fr.place stands.0 stands.1 in
@@ -48,16 +48,16 @@ module _ (p : Image) (t : Typing) (wired : IsWired p) (typed : IsTyped p t) (c :
       (stands.0, subst (λ j. AllTrue (rule_needs p fr.method fr.place stands.0 j)) same x.needs)
 
   -- a quiet method calls quiet ones
-  calls_quiet : (fr : Frame) (ts : List Task) (i : Instr) → Acting p c (calm p) s fr ts i → (target : Target) (m first x : ℕ) →
+  calls_quiet : (fr : Frame) (ts : List Task) (i : Instr) → Acting p c (only_quiet p) s fr ts i → (target : Target) (m first x : ℕ) →
       action_of i ≡ Call Plain target m first x → is_clearing ts ≡ true → is_quiet p m ≡ true
   calls_quiet fr ts i a target m first x e clearing = grind (arith, nat_tests, ruled fr ts i a, call_is i target m first x e, all_parts, only_then)
 
   -- no quiet method sets a trap
-  not_clearing : (fr : Frame) (ts : List Task) (i : Instr) → Acting p c (calm p) s fr ts i → (target : Target) (m first x : ℕ) →
+  not_clearing : (fr : Frame) (ts : List Task) (i : Instr) → Acting p c (only_quiet p) s fr ts i → (target : Target) (m first x : ℕ) →
       action_of i ≡ Call Under_trap target m first x → is_clearing ts ≡ false
   not_clearing fr ts i a target m first x e = grind (arith, nat_tests, false_from_ne_true, ruled fr ts i a, trap_is i target m first x e)
 
-  kept : Kept p c (calm p) s
+  kept : Kept p c (only_quiet p) s
   kept = record {
     goes_on = λ fr ts i a f words. a.runs;
     jumps = λ fr ts i a to f. a.runs;
@@ -74,17 +74,17 @@ module _ (p : Image) (t : Typing) (wired : IsWired p) (typed : IsTyped p t) (c :
     unwinds = λ code ts h. h;
   }
 
-moves : (p : Image) (t : Typing) → IsWired p → IsTyped p t → (c : Choice) (s u : State) → WellTyped p t s → IsCalm p s.tasks → step p c s ≡ Goes u → IsCalm p u.tasks
-moves p t wired typed c s u w h e = keeps p c (calm p) s u (kept p t wired typed c s w) h e
+moves : (p : Image) (t : Typing) → IsWired p → IsTyped p t → (c : Choice) (s u : State) → WellTyped p t s → OnlyQuietRun p s.tasks → step p c s ≡ Goes u → OnlyQuietRun p u.tasks
+moves p t wired typed c s u w h e = keeps p c (only_quiet p) s u (kept p t wired typed c s w) h e
 
-boot : (p : Image) → IsCalm p (boot_state p).tasks
+boot : (p : Image) → OnlyQuietRun p (boot_state p).tasks
 boot p = grind (arith, nat_tests)
 
-pub calm_keeps : CalmKeeps
-calm_keeps = record {
+pub quiet_preserved : QuietPreserved
+quiet_preserved = record {
   boot = boot;
   moves = moves;
-  turns = λ p wired outside heard s u h e. turn_keeps_it p outside heard (calm p) s u (λ m height home words d clearing. absurd (true≢false (sym clearing)))
+  turns = λ p wired outside observed s u h e. turn_keeps_it p outside observed (only_quiet p) s u (λ m height receiver words d clearing. absurd (true≢false (sym clearing)))
       (λ d. refl) (λ o x m height ts e clearing. (destroys_by p wired x x m (itself p x) e).quiet) h e;
 }
 
@@ -96,4 +96,4 @@ none_goes (Dispatched d ∷ ts) e = none_goes ts e
 none_goes _ e = absurd (true≢false e)
 
 pub caught_owned : CaughtOwned
-caught_owned p t wired s w calm fits code tasks items at top = grind (arith, nat_tests, owned p t wired s w, none_goes tasks)
+caught_owned p t wired s w only_quiet fits code tasks items at top = grind (arith, nat_tests, owned p t wired s w, none_goes tasks)

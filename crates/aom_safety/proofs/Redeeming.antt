@@ -4,14 +4,14 @@ use Rattle.std.proofs.Common.{arith, List, None, Option, Some, [], ap, refl, tru
 use Rattle.std.proofs.lemmas.Bool.{eq-eqb, ne_eqb}
 use Rattle.aom_image.specs.Image.{Image}
 use Rattle.aom_image.specs.declared.class.ClassKind.{ClassKind}
-use Rattle.aom_rules.specs.Typing.{Typing}
+use Rattle.aom_typing_rules.specs.Typing.{Typing}
 use Rattle.aom_safety.proofs.SemanticsLemmas.{Alters, read_so, requests}
 use Rattle.aom_safety.proofs.Storing.{Alike, alike_itself, altered_alike, fits_listed, stack_alike}
 use Rattle.aom_safety.proofs.Turned.{recorded_so}
 use Rattle.aom_safety.specs.Claims.{Layer}
 use Rattle.aom_semantics.specs.Natives.{is_owed}
-use Rattle.aom_semantics.specs.Places.{Cell, Object, Request, Tidy, named, requested}
-use Rattle.aom_safety.specs.Requests.{Known, Suits}
+use Rattle.aom_semantics.specs.Places.{Cell, Object, Request, NoDuplicates, named, requested}
+use Rattle.aom_safety.specs.Requests.{Known, ConformsTo}
 use Rattle.aom_semantics.specs.Tokens.{all_redeemed, awaits, is_redeemable, redeemed, redeemed_by, redeemed_request}
 use Rattle.aom_safety.specs.WellTyped.{Good}
 
@@ -32,17 +32,17 @@ redeemed_none : (order : ℕ) (code : ℤ) (r : Option Request) → r ≡ None �
 redeemed_none order code r e = ap (redeemed_request order code) e
 
 -- what is known of a request is known of it once it is completed
-pub suits_redeemed : (order : ℕ) (code : ℤ) (k : Option ClassKind) (n : Known) (r : Option Request) → Suits k n r → Suits k n (redeemed_request order code r)
-suits_redeemed order code k n r s = grind (arith, nat_tests, recorded_so code)
+pub conforms_to_redeemed : (order : ℕ) (code : ℤ) (k : Option ClassKind) (n : Known) (r : Option Request) → ConformsTo k n r → ConformsTo k n (redeemed_request order code r)
+conforms_to_redeemed order code k n r s = grind (arith, nat_tests, recorded_so code)
 
 -- what waits for a token is pending
-pub awaits_owed : (order : ℕ) (k : Option ClassKind) (n : Known) (r : Option Request) → Suits k n r → awaits order r ≡ true → is_owed r ≡ true
+pub awaits_owed : (order : ℕ) (k : Option ClassKind) (n : Known) (r : Option Request) → ConformsTo k n r → awaits order r ≡ true → is_owed r ≡ true
 awaits_owed order k n r s e = grind arith
 
 redeemable_cells : (order : ℕ) (cs : List Cell) → ((o : Object) → named cs o.name ≡ Some o →
-    awaits order (requested cs o.name) ≡ true → is_owed (requested cs o.name) ≡ true) → Tidy cs → is_redeemable (Some order) cs ≡ true
-redeemable_cells order [] h tidy = refl
-redeemable_cells order (c ∷ cs) h tidy = grind (arith, nat_tests, redeemable_cells order cs, eq-eqb c.object.name c.object.name, ne_eqb c.object.name)
+    awaits order (requested cs o.name) ≡ true → is_owed (requested cs o.name) ≡ true) → NoDuplicates cs → is_redeemable (Some order) cs ≡ true
+redeemable_cells order [] h no_duplicates = refl
+redeemable_cells order (c ∷ cs) h no_duplicates = grind (arith, nat_tests, redeemable_cells order cs, eq-eqb c.object.name c.object.name, ne_eqb c.object.name)
 
 module _ (p : Image) (t : Typing) where
   pub redeemable : (order : Option ℕ) (cs : List Cell) (ls : List Layer) → Good p t cs ls → is_redeemable order cs ≡ true
@@ -53,8 +53,8 @@ module _ (p : Image) (t : Typing) where
     stack = grind (arith, nat_tests, stack_alike p t cs, redeemed_alike order code cs, requested_redeemed order code cs);
     fits = λ r. fits_listed p t cs (all_redeemed order code cs) (redeemed_alike order code cs) ls r
         (λ x none. requested_redeemed order code cs x.name ∙ redeemed_none order code (requested cs x.name) none) (good.fits r);
-    suits = grind (arith, nat_tests, requested_redeemed order code cs, suits_redeemed order code, redeemed_alike order code cs);
-    tidy = (redeemed_alike order code cs).tidy good.tidy;
+    conforms_to = grind (arith, nat_tests, requested_redeemed order code cs, conforms_to_redeemed order code, redeemed_alike order code cs);
+    no_duplicates = (redeemed_alike order code cs).no_duplicates good.no_duplicates;
   }
 
   pub redeemed_good : (order : Option ℕ) (code : ℤ) (cs : List Cell) (ls : List Layer) → Good p t cs ls → Good p t (redeemed_by order code cs) ls

@@ -8,12 +8,12 @@ use Rattle.std.specs.Prelude.{◌||◌}
 use Rattle.aom_image.specs.declared.method.Thing.{Thing}
 use Rattle.aom_image.specs.Image.{Image}
 use Rattle.aom_image.specs.declared.method.Thing.TheVariants.{Message}
-use Rattle.aom_rules.specs.Typing.{Typing}
+use Rattle.aom_typing_rules.specs.Typing.{Typing}
 use Rattle.aom_roles.specs.Shapes.{kind_of}
-use Rattle.aom_shape.specs.Kinds.{filled}
-use Rattle.aom_shape.specs.declared.kind.Age.TheVariants.{Ready}
-use Rattle.aom_shape.specs.declared.kind.Filling.TheVariants.{Full}
-use Rattle.aom_shape.specs.declared.kind.Kind.TheVariants.{Null, Own}
+use Rattle.aom_abstract_state.specs.Kinds.{filled}
+use Rattle.aom_abstract_state.specs.declared.kind.InitState.TheVariants.{Ready}
+use Rattle.aom_abstract_state.specs.declared.kind.FieldState.TheVariants.{Full}
+use Rattle.aom_abstract_state.specs.declared.kind.Kind.TheVariants.{Null, Own}
 use Rattle.aom_safety.proofs.Claimed.{declared_ready}
 use Rattle.aom_safety.proofs.ClientsFit.{by_server}
 use Rattle.aom_safety.proofs.Picking.{fits_ready}
@@ -21,16 +21,16 @@ use Rattle.aom_safety.proofs.Services.{held_served, named_served, requested_serv
 use Rattle.aom_safety.proofs.Straight.{fits_unowning}
 use Rattle.aom_safety.specs.Claims.{declared}
 use Rattle.aom_semantics.specs.Places.{Service, unserved, Cell, Elsewhere, Message_of, Object, Place, Queued}
-use Rattle.aom_semantics.specs.Places.{Tidy, held, named, same_place, seen, service_of}
-use Rattle.aom_safety.specs.Requests.{AllSuit, Suits, resting_in, rests_in, thing_kind}
+use Rattle.aom_semantics.specs.Places.{NoDuplicates, held, named, same_place, seen, service_of}
+use Rattle.aom_safety.specs.Requests.{AllConformTo, ConformsTo, resting_in, rests_in, thing_kind}
 use Rattle.aom_semantics.specs.Servers.{asked_last, has_message, has_session, is_message, is_server, message_thing, reserved}
 use Rattle.aom_safety.specs.WellTyped.{Fits, Good}
 use Rattle.aom_safety.proofs.RolesLemmas.{stands_itself}
 
 -- a message is not enlisted
-plain : (p : Image) (y : Object) → y.thing ≡ Message → Suits (thing_kind p y.thing) (resting_in (rests_in p y)) None
+plain : (p : Image) (y : Object) → y.thing ≡ Message → ConformsTo (thing_kind p y.thing) (resting_in (rests_in p y)) None
 unfolding kind_of
-plain p y e = subst (λ x. Suits (thing_kind p x) (resting_in (rests_in p y)) None) (sym e) refl
+plain p y e = subst (λ x. ConformsTo (thing_kind p x) (resting_in (rests_in p y)) None) (sym e) refl
 
 -- the message, with nothing in its queue, no session and no request, in the queue of that server
 module _ (p : Image) (t : Typing) (cs : List Cell) (good : Good p t cs []) (o : Object) (lives : named cs o.name ≡ Some o) (server : is_server p o.thing ≡ true)
@@ -112,15 +112,15 @@ module _ (p : Image) (t : Typing) (cs : List Cell) (good : Good p t cs []) (o : 
   )
   fits r = grind (arith, nat_tests, named_then, eqb-true, kind_then, sessions_then, there_still r (held_then r), held_then r)
 
-  tidy : Tidy then
-  tidy = (
+  no_duplicates : NoDuplicates then
+  no_duplicates = (
     grind (arith, nat_tests, held_rest (Elsewhere (Queued o.name name)), fits_unowning p),
     ap (λ n. named rest n) name_is ∙ named_rest name ∙ free,
-    tidy_served cs o.name (asked_last (Message_of c name) (service_of cs o.name)) good.tidy,
+    tidy_served cs o.name (asked_last (Message_of c name) (service_of cs o.name)) good.no_duplicates,
   )
 
-  suits : AllSuit p then []
-  suits y lives' = grind (arith, nat_tests, named_then y.name, name_is, plain p y, requested_served cs o.name)
+  conforms_to : AllConformTo p then []
+  conforms_to y lives' = grind (arith, nat_tests, named_then y.name, name_is, plain p y, requested_served cs o.name)
 
   pub good_sent : Good p t then []
-  good_sent = record { stack = refl; fits = fits; suits = suits; tidy = tidy }
+  good_sent = record { stack = refl; fits = fits; conforms_to = conforms_to; no_duplicates = no_duplicates }

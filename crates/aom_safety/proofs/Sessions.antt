@@ -4,7 +4,7 @@ use Rattle.std.proofs.Common.{arith, List, None, Option, Some, false, refl, ℕ,
 use Rattle.std.proofs.lemmas.Bool.{eqb-true}
 use Rattle.aom_image.specs.declared.method.Thing.{Thing}
 use Rattle.aom_safety.proofs.SemanticsLemmas.{asking, moving, read_kept, read_unnamed, read_without, sessions, storing}
-use Rattle.aom_semantics.specs.Places.{Cell, Object, Place, Request, Tidy, held, in_session, moved, named, set_request, set_word_field, with_new, without}
+use Rattle.aom_semantics.specs.Places.{Cell, Object, Place, Request, NoDuplicates, held, in_session, moved, named, set_request, set_word_field, with_new, without}
 
 pub session_moved : (cs : List Cell) (p q : Place) (n : ℕ) → in_session (moved p q cs) n ≡ in_session cs n
 session_moved cs p q = read_kept (moving p q) sessions (λ c. refl) cs
@@ -24,6 +24,6 @@ pub session_new : (cs : List Cell) (name : ℕ) (thing : Thing) (words : List �
 session_new cs name thing words owner new n = grind (arith, nat_tests, eqb-true name n, session_unnamed cs name new)
 
 -- a cell that goes takes its own along
-pub session_without : (cs : List Cell) (g : Place) (o : Object) (n : ℕ) → Tidy cs → held cs g ≡ Some o → (o.name == n) ≡ false →
+pub session_without : (cs : List Cell) (g : Place) (o : Object) (n : ℕ) → NoDuplicates cs → held cs g ≡ Some o → (o.name == n) ≡ false →
     in_session (without g cs) n ≡ in_session cs n
 session_without = read_without sessions

@@ -5,16 +5,16 @@ use Rattle.aom_safety.proofs.ImageLemmas.{some_given}
 use Rattle.aom_image.specs.Image.{Image}
 use Rattle.aom_image.specs.declared.method.Thing.{Thing}
 use Rattle.aom_image.specs.declared.method.Thing.TheVariants.{Message, Object as An_object_of}
-use Rattle.aom_roles.specs.Things.{stands_for, is_object}
+use Rattle.aom_roles.specs.Things.{is_subtype, is_object}
 use Rattle.aom_semantics.specs.Servers.{is_server, session_class}
 use Rattle.aom_roles.specs.Shapes.{kind_of}
 use Rattle.aom_roles.specs.Classes.{sessions_at, sessions_in}
 
 -- what stands for an object is one, and what stands for a message is a message
-pub stands_object : (p : Image) (x y : Thing) → stands_for p x y ≡ true → is_object x ≡ is_object y
+pub stands_object : (p : Image) (x y : Thing) → is_subtype p x y ≡ true → is_object x ≡ is_object y
 stands_object p x y a = grind arith
 
-pub stands_message : (p : Image) (x : Thing) → stands_for p x Message ≡ true → x ≡ Message
+pub stands_message : (p : Image) (x : Thing) → is_subtype p x Message ≡ true → x ≡ Message
 stands_message p x a = grind arith
 
 -- a message is no server

@@ -9,15 +9,15 @@ use Rattle.aom_image.specs.Image.{Image}
 use Rattle.aom_image.specs.Views.{action_at, instr_at}
 use Rattle.aom_instructions.specs.Table.{action_of}
 use Rattle.aom_instructions.specs.declared.action.Action.TheVariants.{Call}
-use Rattle.aom_instructions.specs.declared.action.Manner.TheVariants.{Trapped as Under_trap}
+use Rattle.aom_instructions.specs.declared.action.CallMode.TheVariants.{Trapped as Under_trap}
 use Rattle.aom_instructions.specs.declared.instr.Instr.{Instr}
 use Rattle.aom_instructions.specs.declared.instr.Target.{Target}
 use Rattle.aom_image.specs.declared.method.Gives.{Gives}
-use Rattle.aom_rules.specs.Typing.{IsTyped, Typing}
-use Rattle.aom_shape.specs.declared.kind.CleanupEntry.{CleanupEntry}
-use Rattle.aom_shape.specs.declared.kind.CleanupEntry.TheVariants.{Object as Pushed_object, Operation as Operation_entry}
+use Rattle.aom_typing_rules.specs.Typing.{IsTyped, Typing}
+use Rattle.aom_abstract_state.specs.declared.kind.CleanupEntry.{CleanupEntry}
+use Rattle.aom_abstract_state.specs.declared.kind.CleanupEntry.TheVariants.{Object as Pushed_object, Operation as Operation_entry}
 use Rattle.aom_safety.proofs.Booting.{boot_keeps}
-use Rattle.aom_safety.proofs.Caught.{own_word, told_frame}
+use Rattle.aom_safety.proofs.Caught.{own_word, reported_frame}
 use Rattle.aom_safety.proofs.ClientsKeep.{clients_keep}
 use Rattle.aom_safety.proofs.Course.{WellKept, well_on}
 use Rattle.aom_safety.proofs.Guarded.{acts_at}
@@ -28,20 +28,20 @@ use Rattle.aom_safety.proofs.View.{under_dispatch as nothing_under}
 use Rattle.aom_semantics.specs.Calls.{below_top, called, result_register, returned}
 use Rattle.aom_safety.specs.Claims.{Form, Layer, Mark, Mark_form, Method}
 use Rattle.aom_safety.specs.Claims.{Unwinding, forms, items_of, objects, tasks_of}
-use Rattle.aom_semantics.specs.Cleanup.{code_told, ended_by, to_trap}
-use Rattle.aom_classes.specs.Roles.{destructor_of}
+use Rattle.aom_semantics.specs.Cleanup.{code_reported, ended_by, to_trap}
+use Rattle.aom_link_conditions.specs.Roles.{destructor_of}
 use Rattle.aom_semantics.specs.Destruction.{line_on, next_destructor, destructed, parting, first_session, begun, begun_by}
 use Rattle.aom_semantics.specs.Effects.{Calls, Cancels, Destroys, Destroys_last, Effect, Goes_on, Leaves, Operates}
 use Rattle.aom_semantics.specs.Effects.{Returns, Sets_trap, Update, applied, effect, items_after, with_words}
 use Rattle.aom_safety.specs.Laws.{IsWired}
 use Rattle.aom_semantics.specs.Moves.{IsOpen, counted, step}
 use Rattle.aom_semantics.specs.Places.{service_of, Object, named}
-use Rattle.aom_semantics.specs.State.{Inside, Home, Closing, Seat, A_mark, An_object, An_operation, Choice, Destroy, Dispatch, Dispatched}
+use Rattle.aom_semantics.specs.State.{Inside, Receiver, Closing, OwnedObject, A_mark, An_object, An_operation, Choice, Destroy, Dispatch, Dispatched}
 use Rattle.aom_semantics.specs.State.{Frame, Goes, Item, Run, State, Task, Trapped, Unwind, next, resumed}
-use Rattle.aom_safety.specs.Steps.{Empties, Acts, Arrives, Clears, Comes_out, Ends as A_dispatch_ends, Move, Rests, Undoes, Vanishes}
+use Rattle.aom_safety.specs.Steps.{Empties, Acts, Arrives, Clears, Comes_out, Ends as A_dispatch_ends, Move, Rests, Undoes, Reclaims}
 use Rattle.aom_safety.specs.Traps.{ComesOff, GoesOnAfter, IsPast, IsTrapping, TrapsKeep, WasPast, marks, traps}
 use Rattle.aom_safety.specs.WellTyped.{WellTyped}
-use Rattle.aom_semantics.specs.World.{Heard, HearsWell, IsBetween, IsBusy, Environment, Reaches, begins, boot_state, moves, turn, turns}
+use Rattle.aom_semantics.specs.World.{Observed, ObservesWell, IsBetween, IsBusy, Environment, Reaches, begins, boot_state, moves, turn, turns}
 use Rattle.aom_transcript.specs.declared.line.Line.{Line}
 use Rattle.aom_semantics.specs.Requests.{ended_cells}
 use Rattle.aom_semantics.specs.Servers.{is_server}
@@ -146,7 +146,7 @@ destructs_there p o height below ts e = go (destructor_of p o.thing)
     go None = with_task below ts Destroy e
     go (Some m) = with_task below (Destroy ∷ ts) _ (with_task below ts Destroy e)
 
-line_there : (p : Image) (m : ℕ) (home : Home) (height : ℕ) (below ts : List Task) → Ends below (Destroy ∷ ts) → Ends below (line_on p m home height ts)
+line_there : (p : Image) (m : ℕ) (receiver : Receiver) (height : ℕ) (below ts : List Task) → Ends below (Destroy ∷ ts) → Ends below (line_on p m receiver height ts)
 line_there p m (Inside o from) height below ts e = go (next_destructor p m)
   where
     go : (d : Option ℕ) → Ends below (begun_by p d o height ts)
@@ -162,16 +162,16 @@ begins_there p o height below ts e = go (is_server p o.thing)
     go false = destructs_there p o height below ts e
 
 -- a server that goes has a session go first, or its destructor begins
-empties_there : (p : Image) (o : Object) (x : Option Seat) (below ts : List Task) (s : State) → Ends below ts →
+empties_there : (p : Image) (o : Object) (x : Option OwnedObject) (below ts : List Task) (s : State) → Ends below ts →
     Ends below (parting p o x ts s).tasks × Near s.items (parting p o x ts s).items
 empties_there p o None below ts s e = (destructs_there p o (length s.items) below ts e, inl refl)
 empties_there p o (Some x) below ts s e =
     (begins_there p x.object (length s.items) below (Closing ∷ Destroy ∷ ts) (with_task below (Destroy ∷ ts) Closing (with_task below ts Destroy e)), inl refl)
 
 -- a method returns
-module _ (p : Image) (c : Choice) (fr : Frame) (ts : List Task) (s : State) (at_hand : s.tasks ≡ Run fr ∷ ts) (below : List Task) (e : Ends below ts) where
+module _ (p : Image) (c : Choice) (fr : Frame) (ts : List Task) (s : State) (has_task : s.tasks ≡ Run fr ∷ ts) (below : List Task) (e : Ends below ts) where
   given : Moved p below s s
-  given = inl (subst (λ l. Ends below l) (sym at_hand) (with_task below ts (Run fr) e), inl refl)
+  given = inl (subst (λ l. Ends below l) (sym has_task) (with_task below ts (Run fr) e), inl refl)
 
   -- the word 0 is told
   through_trap : (g : Gives) (a : ℕ) (under : List Task) → ts ≡ Trapped ∷ under → (under ≡ below) ⊎ Ends below under →
@@ -185,7 +185,7 @@ module _ (p : Image) (c : Choice) (fr : Frame) (ts : List Task) (s : State) (at_
   return_there : (g : Gives) (a : ℕ) (under : List Task) → ts ≡ under → Ends below under → Moved p below s (returned p fr ts s g a under)
   return_there g a (Run caller ∷ under) at o = inl (with_task below under _ (under_frame below under caller o), inl refl)
   return_there g a (Trapped ∷ under) at o = through_trap g a under at (under_trap below under o)
-  return_there g a (Destroy ∷ under) at o = inl (line_there p fr.method fr.home fr.height below under o, inl refl)
+  return_there g a (Destroy ∷ under) at o = inl (line_there p fr.method fr.receiver fr.height below under o, inl refl)
   return_there g a (Unwind code ∷ under) at o = inl (o, inl refl)
   return_there g a (Dispatched d ∷ under) at o = inl (with_task below under _ (under_dispatch below under d o), inl refl)
   return_there g a _ at o = given
@@ -212,8 +212,8 @@ module _ (p : Image) (c : Choice) (s : State) (below : List Task) where
   arrives : (code : ℤ) (fr : Frame) (ts : List Task) (items : List Item) → s.tasks ≡ Unwind code ∷ Trapped ∷ Run fr ∷ ts → s.items ≡ A_mark ∷ items →
       (Run fr ∷ ts ≡ below) ⊎ Ends below (Run fr ∷ ts) →
       let i = instr_at p fr.method fr.place in
-      Moved p below s (record (counted p s) { tasks = Run (next (code_told (called p i) (result_register i) code fr)) ∷ ts; items = items })
-  arrives code fr ts items at top x = grind (arith, nat_tests, told_frame, with_task below ts, under_frame below ts fr)
+      Moved p below s (record (counted p s) { tasks = Run (next (code_reported (called p i) (result_register i) code fr)) ∷ ts; items = items })
+  arrives code fr ts items at top x = grind (arith, nat_tests, reported_frame, with_task below ts, under_frame below ts fr)
 
   comes_out : (code : ℤ) (d : Dispatch) (ts : List Task) (items : List Item) → s.tasks ≡ Unwind code ∷ Trapped ∷ Dispatched d ∷ ts → s.items ≡ A_mark ∷ items →
       (Dispatched d ∷ ts ≡ below) ⊎ Ends below (Dispatched d ∷ ts) →
@@ -223,7 +223,7 @@ module _ (p : Image) (c : Choice) (s : State) (below : List Task) where
   moved : (t : Typing) (u : State) → WellTyped p t s → Ends below s.tasks → Move p c s u → Moved p below s u
   moved t u w o (Rests still e) = subst (λ v. Moved p below s v) (sym e) (inl (o, inl refl))
   moved t u w o (Acts fr ts i e at there met fits same) = grind (arith, nat_tests, acts fr ts i e at, under_frame below ts fr)
-  moved t u w o (Vanishes ts x at there owns same) = grind (arith, nat_tests, resumes below ts, under_going below ts)
+  moved t u w o (Reclaims ts x at there owns same) = grind (arith, nat_tests, resumes below ts, under_going below ts)
   moved t u w o (Empties ts x at there same) = rw same (inl (empties_there p x (first_session s.cells x.name (service_of s.cells x.name).sessions) below ts
       (counted p s) (under_going below ts (under_closing below (Destroy ∷ ts) (rw at at o)))))
   moved t u w o (Clears code ts items x at top there same) =
@@ -308,15 +308,15 @@ module _ (p : Image) (t : Typing) (outside : Environment) (wired : IsWired p) (t
           inr (record { earlier = lines; last = s; until = before; trapping = h; choice = c; after = u; move = e; past = off; lines = []; reaches = begins })
   moved_on lines s u c w before busy choice e (inr h) = inr (past_on s u h _ (moves c h.reaches busy choice e))
 
-  turned : (heard : Heard) (s u : State) → IsBetween s → HearsWell p outside heard s → turn p outside heard s ≡ Goes u → Lasts s → Lasts u
-  turned heard s u between hears e (inl h) = absurd (none_below below (h.over, sym between.idle ∙ h.tasks))
-  turned heard s u between hears e (inr h) = inr (past_on s u h _ (turns heard h.reaches between hears e))
+  turned : (observed : Observed) (s u : State) → IsBetween s → ObservesWell p outside observed s → turn p outside observed s ≡ Goes u → Lasts s → Lasts u
+  turned observed s u between observes e (inl h) = absurd (none_below below (h.over, sym between.idle ∙ h.tasks))
+  turned observed s u between observes e (inr h) = inr (past_on s u h _ (turns observed h.reaches between observes e))
 
   lasts : IsTrapping below items from → (lines : List Line) (s : State) → Reaches p outside from lines s → Lasts s
   lasts h _ _ begins = inl h
   lasts h _ _ (moves {lines = lines} {s = s} {u = u} c before busy choice e) =
       moved_on lines s u c (well_on p t outside wired typed from well lines s before).0 before busy choice e (lasts h lines s before)
-  lasts h _ _ (turns {lines = lines} {s = s} {u = u} heard before between hears e) = turned heard s u between hears e (lasts h lines s before)
+  lasts h _ _ (turns {lines = lines} {s = s} {u = u} observed before between observes e) = turned observed s u between observes e (lasts h lines s before)
 
 pub traps_keep : TrapsKeep
 traps_keep = record {

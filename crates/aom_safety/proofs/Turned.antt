@@ -8,18 +8,18 @@ use Rattle.aom_image.specs.Image.{Image}
 use Rattle.aom_image.specs.declared.method.Role.TheVariants.{Accept as Accepts_role, Service as Attends, Run as Handles}
 use Rattle.aom_safety.proofs.Guarded.{goes_same, guarded_goes}
 use Rattle.aom_semantics.specs.Requests.{completed_with, part_of, pending, recorded, taken_up}
-use Rattle.aom_semantics.specs.Natives.{all_bereaved, is_outstanding_at}
+use Rattle.aom_semantics.specs.Natives.{all_detached, is_outstanding_at}
 use Rattle.aom_semantics.specs.Places.{Asked, Connect_of, Message_of, Close_of, Elsewhere, Session, In_service, Queued, Going, held, moved, Object}
-use Rattle.aom_semantics.specs.State.{Dispatched, Of_server, Accepts, Serves, Parts, frame_of, Inside, A_mark, CompletedTwice, Goes, Counters, Seat, State}
-use Rattle.aom_semantics.specs.World.{Obeys, heard_one, serving, taken_from, message_words, serves_first, attending, attended, picked as any_picked}
-use Rattle.aom_semantics.specs.World.{Completes, Completion, Heard, Kills, Environment, Picks, Polls, Strays, Turning, answered_by, cell_at}
+use Rattle.aom_semantics.specs.State.{Dispatched, Of_server, Accepts, Serves, Disconnects, frame_of, Inside, A_mark, CompletedTwice, Goes, Counters, OwnedObject, State}
+use Rattle.aom_semantics.specs.World.{Executes, observed_one, serving, taken_from, message_words, serves_first, attending, attended, picked as any_picked}
+use Rattle.aom_semantics.specs.World.{Completes, Completion, Observed, Kills, Environment, Picks, Polls, Strays, Turning, answered_by, cell_at}
 use Rattle.aom_semantics.specs.World.{dispatched, past_native, polled, run_tasks, turn, turned, turning, with_request}
 use Rattle.std.specs.Prelude.{[], length}
 use Rattle.aom_semantics.specs.Clients.{commanded}
 use Rattle.aom_semantics.specs.Destruction.{begun}
 use Rattle.aom_transcript.specs.declared.event.ClientCommand.{ClientCommand}
 
-abbrev pub picked : ℕ → Seat → State → State
+abbrev pub picked : ℕ → OwnedObject → State → State
 picked m x s = record s {
   cells = with_request taken_up x.object s.cells;
   tasks = run_tasks m x (length (A_mark ∷ s.items));
@@ -28,7 +28,7 @@ picked m x s = record s {
 }
 
 -- what the dispatch of an object or a server begins with
-pub data Picked (p : Image) (s : State) (x : Seat) : State → Type 0 where
+pub data Picked (p : Image) (s : State) (x : OwnedObject) : State → Type 0 where
   handles : (m : ℕ) → part_of p Handles x.object.thing ≡ Some m → Picked p s x (picked m x s)
   accepts : (client m : ℕ) → part_of p Accepts_role x.object.thing ≡ Some m →
       Picked p s x (serving x client Accepts (frame_of m (Inside x.object x.place) (length (A_mark ∷ s.items))) (taken_from x.object.name s))
@@ -38,23 +38,23 @@ pub data Picked (p : Image) (s : State) (x : Seat) : State → Type 0 where
       (record (taken_from x.object.name s) { cells = moved (Elsewhere (Queued x.object.name message)) (Elsewhere In_service) (taken_from x.object.name s).cells }))
   parts : (client : ℕ) (o : Object) → held s.cells (Elsewhere (Session x.object.name client)) ≡ Some o → Picked p s x (record (taken_from x.object.name s) {
     cells = moved (Elsewhere (Session x.object.name client)) (Going 1) (taken_from x.object.name s).cells;
-    tasks = begun p o (length s.items) (Dispatched (Of_server x client Parts) ∷ []);
+    tasks = begun p o (length s.items) (Dispatched (Of_server x client Disconnects) ∷ []);
   })
 
 pub data Turned (p : Image) (s : State) : State → Type 0 where
   keeps_all : (r : Counters) → Turned p s (record s { rest = r })
   completes : (code : ℤ) (o : Object) (r : Counters) → int_eq code pending ≡ false →
       Turned p s (record s { cells = with_request (completed_with code) o s.cells; rest = r })
-  kills : (n : ℕ) (r : Counters) (killed : List ℕ) → Turned p s (record s { cells = all_bereaved p n s.cells; rest = r; killed = killed })
-  obeys : (client : ℕ) (command : ClientCommand) (name : ℕ) → Turned p s (commanded p client (heard_one s) command name)
-  picks : (x : Seat) (u : State) → Picked p s x u → Turned p s u
+  kills : (n : ℕ) (r : Counters) (killed : List ℕ) → Turned p s (record s { cells = all_detached p n s.cells; rest = r; killed = killed })
+  executes : (client : ℕ) (command : ClientCommand) (name : ℕ) → Turned p s (commanded p client (observed_one s) command name)
+  picks : (x : OwnedObject) (u : State) → Picked p s x u → Turned p s u
 
-pub dispatched_so : (p : Image) (s u : State) (x : Seat) → dispatched (part_of p Handles x.object.thing) x s ≡ Goes u →
+pub dispatched_so : (p : Image) (s u : State) (x : OwnedObject) → dispatched (part_of p Handles x.object.thing) x s ≡ Goes u →
     (m : ℕ) × (part_of p Handles x.object.thing ≡ Some m) × (u ≡ picked m x s)
 dispatched_so p s u x e = grind (arith, nat_tests)
 
 -- the first of a server's queue is served
-serves_so : (p : Image) (s u : State) (x : Seat) (queue : List Asked) → serves_first p x queue s ≡ Goes u → Picked p s x u
+serves_so : (p : Image) (s u : State) (x : OwnedObject) (queue : List Asked) → serves_first p x queue s ≡ Goes u → Picked p s x u
 serves_so p s u x [] e = cc
 serves_so p s u x (Connect_of client ∷ es) e = grind (arith, nat_tests, some_given, goes_same, accepts)
 serves_so p s u x (Message_of client message ∷ es) e = some_given (λ o. attended p x client o message (taken_from x.object.name s) ≡ Goes u)
@@ -63,11 +63,11 @@ serves_so p s u x (Message_of client message ∷ es) e = some_given (λ o. atten
     subst (λ v. Picked p s x v) (goes_same _ u e) (attends client message m o there at)))
 serves_so p s u x (Close_of client ∷ es) e = grind (arith, nat_tests, some_given, goes_same, parts)
 
-pub picked_so : (p : Image) (s u : State) (x : Seat) → any_picked p x s ≡ Goes u → Picked p s x u
+pub picked_so : (p : Image) (s u : State) (x : OwnedObject) → any_picked p x s ≡ Goes u → Picked p s x u
 picked_so p s u x e = grind (arith, nat_tests, serves_so, dispatched_so, handles)
 
 -- steps are counted anew, and natives are polled anew
-pub picked_rest : (p : Image) (s u : State) (x : Seat) → any_picked p x s ≡ Goes u → u.rest ≡ record s.rest { steps = 0; polled = 0 }
+pub picked_rest : (p : Image) (s u : State) (x : OwnedObject) → any_picked p x s ≡ Goes u → u.rest ≡ record s.rest { steps = 0; polled = 0 }
 picked_rest p s u x e = grind (arith, nat_tests, picked_so p s u x e, handles, accepts, attends, parts)
 
 -- ---- a command of a client
@@ -110,10 +110,10 @@ turned_so : (p : Image) (s u : State) (k : Turning) → turned p s k ≡ Goes u 
 turned_so p s u (Completes o) e = subst (λ v. Turned p s v) (goes_same _ u e) (completes (pos 0) o s.rest refl)
 turned_so p s u (Kills n) e = subst (λ v. Turned p s v) (goes_same _ u e) (kills n _ _)
 turned_so p s u (Polls n answer) e = polled_turned p s u n (polled_so p s u n answer e)
-turned_so p s u (Obeys client command name) e = subst (λ v. Turned p s v) (goes_same _ u e) (obeys client command name)
+turned_so p s u (Executes client command name) e = subst (λ v. Turned p s v) (goes_same _ u e) (executes client command name)
 turned_so p s u (Picks x) e = picks x u (picked_so p s u x e)
 turned_so p s u Strays e = cc
 turned_so p s u _ e = subst (λ v. Turned p s v) (goes_same _ u e) (keeps_all _)
 
-pub turns_so : (p : Image) (outside : Environment) (heard : Heard) (s u : State) → turn p outside heard s ≡ Goes u → Turned p s u
-turns_so p outside heard s u e = turned_so p s u (turning outside heard s) e
+pub turns_so : (p : Image) (outside : Environment) (observed : Observed) (s u : State) → turn p outside observed s ≡ Goes u → Turned p s u
+turns_so p outside observed s u e = turned_so p s u (turning outside observed s) e

@@ -16,69 +16,69 @@ use Rattle.aom_roles.specs.Kinds.{is_active_kind}
 use Rattle.aom_roles.specs.Classes.{sessions_in, sessions_of}
 use Rattle.aom_roles.specs.Shapes.{kind_of}
 use Rattle.aom_roles.specs.States.{idle, states_of}
-use Rattle.aom_rules.specs.Typing.{IsTyped, Typing}
-use Rattle.aom_shape.specs.Arguments.{argument_kind, entry_fields}
+use Rattle.aom_typing_rules.specs.Typing.{IsTyped, Typing}
+use Rattle.aom_abstract_state.specs.Arguments.{argument_kind, entry_fields}
 use Rattle.aom_roles.specs.Tables.{at}
 use Rattle.aom_roles.specs.Things.{holder_by}
-use Rattle.aom_shape.specs.declared.kind.Filling.TheVariants.{Perhaps}
-use Rattle.aom_shape.specs.declared.kind.Kind.TheVariants.{Unset}
+use Rattle.aom_abstract_state.specs.declared.kind.FieldState.TheVariants.{Perhaps}
+use Rattle.aom_abstract_state.specs.declared.kind.Kind.TheVariants.{Unset}
 use Rattle.aom_safety.proofs.Chains.{chain}
 use Rattle.aom_safety.proofs.Claimed.{declared_ready}
 use Rattle.aom_safety.proofs.Destroying.{at_alike}
 use Rattle.aom_safety.proofs.Entering.{Entering, enters}
-use Rattle.aom_safety.proofs.Housing.{houses_role}
+use Rattle.aom_safety.proofs.ReceiverHolding.{receiver_conforms_role}
 use Rattle.aom_safety.proofs.SemanticsLemmas.{same_place_refl}
 use Rattle.aom_safety.proofs.Owners.{later}
 use Rattle.aom_safety.proofs.Owners.{rank}
 use Rattle.aom_safety.proofs.PickedClose.{parts_well}
 use Rattle.aom_safety.proofs.Picking.{accepts_well, attends_well, plain_message}
 use Rattle.aom_safety.proofs.Signals.{at_rest, signals_are_ready, items_at_rest}
-use Rattle.aom_safety.proofs.Storing.{Alike, fits_alike, requested_here, requested_there, rerequested_alike, sits_alike, bereaved_alike, requested_bereaved}
+use Rattle.aom_safety.proofs.Storing.{Alike, fits_alike, requested_here, requested_there, request_updated_alike, sits_alike, detached_alike, requested_detached}
 use Rattle.aom_safety.proofs.Turned.{picked, recorded_so}
 use Rattle.aom_safety.specs.Claims.{Dispatching, Layer, Mark, claim, declared, forms}
 use Rattle.aom_semantics.specs.Requests.{on_request, part_of, pending, taken_up, completed_with}
 use Rattle.aom_safety.specs.Kept.{ClientsFit}
 use Rattle.aom_safety.specs.Laws.{IsHandler, IsWired, TurnGoesOn}
 use Rattle.aom_semantics.specs.Places.{Asked, Cell, Close_of, Connect_of, Elsewhere, Message_of, Object, Place}
-use Rattle.aom_semantics.specs.Places.{Request, Root, Tidy, held, named, requested, seen, service_of}
+use Rattle.aom_semantics.specs.Places.{Request, Root, NoDuplicates, held, named, requested, seen, service_of}
 use Rattle.aom_semantics.specs.Servers.{has_more, is_server}
-use Rattle.aom_safety.specs.Requests.{AllSuit, Known, Suits, resting_in, rests_in, thing_kind}
-use Rattle.aom_semantics.specs.State.{A_mark, Inside, Of_object, Counters, Seat, State}
-use Rattle.aom_safety.specs.WellTyped.{AllSit, Fits, Good, Keeps, WellTyped, WordFits}
+use Rattle.aom_safety.specs.Requests.{AllConformTo, Known, ConformsTo, resting_in, rests_in, thing_kind}
+use Rattle.aom_semantics.specs.State.{A_mark, Inside, Of_object, Counters, OwnedObject, State}
+use Rattle.aom_safety.specs.WellTyped.{IsOwnedChain, Fits, Good, PreservesTyping, WellTyped, WordFits}
 use Rattle.aom_semantics.specs.World.{AnswersWell, Candidate, Completes, Completion, Cuts, Environment, Timed, Turning, among_ready}
 use Rattle.aom_semantics.specs.World.{before_others, by_timer, dispatched, first_due, first_ready, goes_before, goes_now, has_signal}
 use Rattle.aom_semantics.specs.World.{is_ready, picks, turned, with_request, Polls, answered_by, by_event, delivers, lives, next_event}
 use Rattle.aom_semantics.specs.World.{next_native, next_time, picked as any_picked, polled, polls, serves_first}
-use Rattle.aom_semantics.specs.Natives.{all_bereaved, is_outstanding_at, is_served_by, terminated_request}
+use Rattle.aom_semantics.specs.Natives.{all_detached, is_outstanding_at, is_served_by, terminated_request}
 use Rattle.aom_transcript.specs.declared.event.Event.{Event}
 use Rattle.aom_transcript.specs.declared.event.TimedEvent.{TimedEvent}
-use Rattle.aom_safety.proofs.Obeying.{commanded_well}
+use Rattle.aom_safety.proofs.Executing.{commanded_well}
 
 -- ---- the object that is picked
 
 pub record Found (cs : List Cell) (y : Candidate) : Type 0 where
-  pub there : held cs y.seat.place ≡ Some y.seat.object
-  pub lives : named cs y.seat.object.name ≡ Some y.seat.object
-  pub asked : requested cs y.seat.object.name ≡ Some y.request
-  pub ready : (is_ready y.request || has_more (service_of cs y.seat.object.name).queue) ≡ true
+  pub there : held cs y.owned_object.place ≡ Some y.owned_object.object
+  pub lives : named cs y.owned_object.object.name ≡ Some y.owned_object.object
+  pub asked : requested cs y.owned_object.object.name ≡ Some y.request
+  pub ready : (is_ready y.request || has_more (service_of cs y.owned_object.object.name).queue) ≡ true
 
-found_later : (c : Cell) (cs : List Cell) (y : Candidate) → Tidy (c ∷ cs) → Found cs y → Found (c ∷ cs) y
-found_later c cs y tidy f = record {
-  there = later cs c y.seat.place y.seat.object tidy f.there;
-  lives = ap (λ b. cond b (Some c.object) (named cs y.seat.object.name)) other ∙ f.lives;
-  asked = ap (λ b. cond b c.request (requested cs y.seat.object.name)) other ∙ f.asked;
-  ready = ap (λ b. is_ready y.request || has_more (cond b c.service (service_of cs y.seat.object.name)).queue) other ∙ f.ready;
+found_later : (c : Cell) (cs : List Cell) (y : Candidate) → NoDuplicates (c ∷ cs) → Found cs y → Found (c ∷ cs) y
+found_later c cs y no_duplicates f = record {
+  there = later cs c y.owned_object.place y.owned_object.object no_duplicates f.there;
+  lives = ap (λ b. cond b (Some c.object) (named cs y.owned_object.object.name)) other ∙ f.lives;
+  asked = ap (λ b. cond b c.request (requested cs y.owned_object.object.name)) other ∙ f.asked;
+  ready = ap (λ b. is_ready y.request || has_more (cond b c.service (service_of cs y.owned_object.object.name)).queue) other ∙ f.ready;
 }
   where
-    other : (c.object.name == y.seat.object.name) ≡ false
-    other = grind (arith, nat_tests, ne_eqb c.object.name y.seat.object.name)
+    other : (c.object.name == y.owned_object.object.name) ≡ false
+    other = grind (arith, nat_tests, ne_eqb c.object.name y.owned_object.object.name)
 
-module _ (c : Cell) (cs : List Cell) (y : Candidate) (tidy : Tidy (c ∷ cs)) (rest : first_ready cs ≡ Some y → Found cs y) where
+module _ (c : Cell) (cs : List Cell) (y : Candidate) (no_duplicates : NoDuplicates (c ∷ cs)) (rest : first_ready cs ≡ Some y → Found cs y) where
   among : (others : Option Candidate) → first_ready cs ≡ others → others ≡ Some y → Found (c ∷ cs) y
-  among others same e = found_later c cs y tidy (rest (same ∙ e))
+  among others same e = found_later c cs y no_duplicates (rest (same ∙ e))
 
   abbrev me : Request → Candidate
-  me r = record { seat = record { object = c.object; place = c.owner }; request = r }
+  me r = record { owned_object = record { object = c.object; place = c.owner }; request = r }
 
   found_here : (r : Request) → c.request ≡ Some r → goes_now c r ≡ true → Found (c ∷ cs) (me r)
   found_here r here ready = record {
@@ -104,12 +104,12 @@ module _ (c : Cell) (cs : List Cell) (y : Candidate) (tidy : Tidy (c ∷ cs)) (r
   of_request : (r : Option Request) → c.request ≡ r → among_ready c r (first_ready cs) ≡ Some y → Found (c ∷ cs) y
   of_request x here e = grind (arith, nat_tests, among, of_ready)
 
-pub found : (cs : List Cell) → Tidy cs → (y : Candidate) → first_ready cs ≡ Some y → Found cs y
-found [] tidy y e = cc
-found (c ∷ cs) tidy y e = of_request c cs y tidy (λ e. found cs tidy.2 y e) c.request refl e
+pub found : (cs : List Cell) → NoDuplicates cs → (y : Candidate) → first_ready cs ≡ Some y → Found cs y
+found [] no_duplicates y e = cc
+found (c ∷ cs) no_duplicates y e = of_request c cs y no_duplicates (λ e. found cs no_duplicates.2 y e) c.request refl e
 
 -- a server is idle
-idles : (k : Option ClassKind) (r : Request) → is_some (sessions_in k) ≡ true → Suits k (resting_in (states_of k)) (Some r) → is_ready r ≡ false
+idles : (k : Option ClassKind) (r : Request) → is_some (sessions_in k) ≡ true → ConformsTo k (resting_in (states_of k)) (Some r) → is_ready r ≡ false
 unfolding sessions_in sessions_of states_of
 idles k r e s = grind arith
 
@@ -121,11 +121,11 @@ module _ (code : ℤ) (settled : int_eq code pending ≡ false) where
   answered : (b : Bool) → (b && int_eq code pending) ≡ false
   answered b = grind (arith, nat_tests)
 
-  suits_completed : (k : Option ClassKind) (n : Known) (r : Option Request) → Suits k n r → Suits k n (on_request (completed_with code) r)
-  suits_completed k n r s = grind arith
+  conforms_to_completed : (k : Option ClassKind) (n : Known) (r : Option Request) → ConformsTo k n r → ConformsTo k n (on_request (completed_with code) r)
+  conforms_to_completed k n r s = grind arith
 
-suits_bereaved : (served : Bool) (k : Option ClassKind) (n : Known) (r : Option Request) → Suits k n r → Suits k n (cond served (terminated_request r) r)
-suits_bereaved x k n r s = grind (arith, nat_tests, suits_completed)
+conforms_to_detached : (served : Bool) (k : Option ClassKind) (n : Known) (r : Option Request) → ConformsTo k n r → ConformsTo k n (cond served (terminated_request r) r)
+conforms_to_detached x k n r s = grind (arith, nat_tests, conforms_to_completed)
 
 module _ (p : Image) (t : Typing) (s : State) (w : WellTyped p t s) (idle_now : s.tasks ≡ []) where
   good : Good p t s.cells []
@@ -136,17 +136,17 @@ module _ (p : Image) (t : Typing) (s : State) (w : WellTyped p t s) (idle_now : 
 
   -- nothing but what no place tells changes
   same_well : (r : Counters) → WellTyped p t (record s { rest = r })
-  same_well r = record { layers = w.layers; tasks = w.tasks; items = w.items; undos = w.undos; good = w.good }
+  same_well r = record { layers = w.layers; tasks = w.tasks; items = w.items; undo_operations = w.undo_operations; good = w.good }
 
   -- other cells in the same places, whose requests suit
   module _ (cs : List Cell) (like : Alike s.cells cs) (r : Counters) (killed : List ℕ) where
-    alike_well : AllSuit p cs [] → WellTyped p t (record s { cells = cs; rest = r; killed = killed })
-    alike_well suits = record {
+    alike_well : AllConformTo p cs [] → WellTyped p t (record s { cells = cs; rest = r; killed = killed })
+    alike_well conforms_to = record {
       layers = [];
       tasks = idle_now;
       items = ap forms items;
-      undos = w.undos;
-      good = record { stack = refl; fits = fits; suits = suits; tidy = like.tidy good.tidy };
+      undo_operations = w.undo_operations;
+      good = record { stack = refl; fits = fits; conforms_to = conforms_to; no_duplicates = like.no_duplicates good.no_duplicates };
     }
       where
         fits : (q : Place) → Fits p (seen cs) (held cs q) (declared p cs q)
@@ -157,54 +157,54 @@ module _ (p : Image) (t : Typing) (s : State) (w : WellTyped p t s) (idle_now : 
     then = with_request f o s.cells
 
     alike : Alike s.cells then
-    alike = rerequested_alike s.cells (Inside o (Elsewhere Root)) (on_request f (requested s.cells o.name))
+    alike = request_updated_alike s.cells (Inside o (Elsewhere Root)) (on_request f (requested s.cells o.name))
 
     fits_then : (r : Place) → Fits p (seen then) (held then r) (declared p then r)
     fits_then r = fits_alike p t s.cells then alike [] r (λ y e fresh. absurd (true≢false (sym (declared_ready p s.cells r) ∙ fresh))) (good.fits r)
 
     others_then : (y : Object) → named then y.name ≡ Some y → (o.name == y.name) ≡ false →
-        Suits (thing_kind p y.thing) (resting_in (rests_in p y)) (requested then y.name)
+        ConformsTo (thing_kind p y.thing) (resting_in (rests_in p y)) (requested then y.name)
     others_then y lives other =
-        rw (requested_there s.cells o.name y.name (on_request f (requested s.cells o.name)) other) (good.suits y (sym (alike.named_so y.name) ∙ lives))
+        rw (requested_there s.cells o.name y.name (on_request f (requested s.cells o.name)) other) (good.conforms_to y (sym (alike.named_so y.name) ∙ lives))
 
   -- the request of an object is completed
   module _ (code : ℤ) (settled : int_eq code pending ≡ false) (o : Object) where
-    suits_then : AllSuit p (with_request (completed_with code) o s.cells) []
-    suits_then y lives = go (o.name == y.name) refl
+    conforms_to_then : AllConformTo p (with_request (completed_with code) o s.cells) []
+    conforms_to_then y lives = go (o.name == y.name) refl
       where
         was : named s.cells y.name ≡ Some y
         was = sym ((alike (completed_with code) o).named_so y.name) ∙ lives
 
         go : (b : Bool) → (o.name == y.name) ≡ b →
-            Suits (thing_kind p y.thing) (resting_in (rests_in p y)) (requested (with_request (completed_with code) o s.cells) y.name)
+            ConformsTo (thing_kind p y.thing) (resting_in (rests_in p y)) (requested (with_request (completed_with code) o s.cells) y.name)
         go false other = others_then (completed_with code) o y lives other
         go true same =
             let equal : o.name ≡ y.name = eqb-true o.name y.name same in
-            subst (λ n. Suits (thing_kind p y.thing) (resting_in (rests_in p y)) (requested (with_request (completed_with code) o s.cells) n)) equal
-            (subst (λ r. Suits (thing_kind p y.thing) (resting_in (rests_in p y)) r) (grind (arith, nat_tests, requested_here, was))
-            (suits_completed code settled (thing_kind p y.thing) (resting_in (rests_in p y)) (requested s.cells o.name)
-            (subst (λ n. Suits (thing_kind p y.thing) (resting_in (rests_in p y)) (requested s.cells n)) (sym equal) (good.suits y was))))
+            subst (λ n. ConformsTo (thing_kind p y.thing) (resting_in (rests_in p y)) (requested (with_request (completed_with code) o s.cells) n)) equal
+            (subst (λ r. ConformsTo (thing_kind p y.thing) (resting_in (rests_in p y)) r) (grind (arith, nat_tests, requested_here, was))
+            (conforms_to_completed code settled (thing_kind p y.thing) (resting_in (rests_in p y)) (requested s.cells o.name)
+            (subst (λ n. ConformsTo (thing_kind p y.thing) (resting_in (rests_in p y)) (requested s.cells n)) (sym equal) (good.conforms_to y was))))
 
     pub completed : (r : Counters) → WellTyped p t (record s { cells = with_request (completed_with code) o s.cells; rest = r })
-    completed r = alike_well (with_request (completed_with code) o s.cells) (alike (completed_with code) o) r s.killed suits_then
+    completed r = alike_well (with_request (completed_with code) o s.cells) (alike (completed_with code) o) r s.killed conforms_to_then
 
   -- a native is killed
-  suits_without : (n : ℕ) → AllSuit p (all_bereaved p n s.cells) []
-  suits_without n y lives =
-      let was : named s.cells y.name ≡ Some y = sym ((bereaved_alike p n s.cells).named_so y.name) ∙ lives in
-      rw (requested_bereaved p n s.cells y was)
-      (suits_bereaved (is_served_by p n y.thing) (thing_kind p y.thing) (resting_in (rests_in p y)) (requested s.cells y.name) (good.suits y was))
+  conforms_to_without : (n : ℕ) → AllConformTo p (all_detached p n s.cells) []
+  conforms_to_without n y lives =
+      let was : named s.cells y.name ≡ Some y = sym ((detached_alike p n s.cells).named_so y.name) ∙ lives in
+      rw (requested_detached p n s.cells y was)
+      (conforms_to_detached (is_served_by p n y.thing) (thing_kind p y.thing) (resting_in (rests_in p y)) (requested s.cells y.name) (good.conforms_to y was))
 
-  pub bereaved_well : (n : ℕ) (r : Counters) (killed : List ℕ) → WellTyped p t (record s { cells = all_bereaved p n s.cells; rest = r; killed = killed })
-  bereaved_well n r killed = alike_well (all_bereaved p n s.cells) (bereaved_alike p n s.cells) r killed (suits_without n)
+  pub detached_well : (n : ℕ) (r : Counters) (killed : List ℕ) → WellTyped p t (record s { cells = all_detached p n s.cells; rest = r; killed = killed })
+  detached_well n r killed = alike_well (all_detached p n s.cells) (detached_alike p n s.cells) r killed (conforms_to_without n)
 
   -- a native is polled, and completes what is outstanding at it
-  answered_well : (n : ℕ) (a : Completion) (c : Cell) → is_outstanding_at p n c ≡ true → Keeps p t (answered_by p n (Some c) a.code s)
+  answered_well : (n : ℕ) (a : Completion) (c : Cell) → is_outstanding_at p n c ≡ true → PreservesTyping p t (answered_by p n (Some c) a.code s)
   answered_well n a c owed = grind (arith, nat_tests, completed, recorded_so a.code)
 
-  polled_well : (n : ℕ) (answer : Option Completion) → AnswersWell p s (Polls n answer) → Keeps p t (polled p n answer s)
+  polled_well : (n : ℕ) (answer : Option Completion) → AnswersWell p s (Polls n answer) → PreservesTyping p t (polled p n answer s)
   polled_well n None owed = same_well _
-  polled_well n (Some a) owed = subst (λ c. Keeps p t (answered_by p n c a.code s)) (sym owed.1) (answered_well n a owed.0 owed.2)
+  polled_well n (Some a) owed = subst (λ c. PreservesTyping p t (answered_by p n c a.code s)) (sym owed.1) (answered_well n a owed.0 owed.2)
 
   module _ (wired : IsWired p) (typed : IsTyped p t) (fit : ClientsFit p s.clients s.cells) where
     -- the method of an object of a class of active objects
@@ -213,39 +213,39 @@ module _ (p : Image) (t : Typing) (s : State) (w : WellTyped p t s) (idle_now : 
     handler_of (An_object_of c) e = let m = wired.handler c e in (m.0, m.1, c, refl, wired.handles c m.0 m.1)
     handler_of Message e = cc
 
-    object_well : (y : Candidate) → Found s.cells y → is_ready y.request ≡ true → Keeps p t (dispatched (part_of p Handles y.seat.object.thing) y.seat s)
-    object_well y it_is ready = subst (λ h. Keeps p t (dispatched h y.seat s)) (sym it.1) well
+    object_well : (y : Candidate) → Found s.cells y → is_ready y.request ≡ true → PreservesTyping p t (dispatched (part_of p Handles y.owned_object.object.thing) y.owned_object s)
+    object_well y it_is ready = subst (λ h. PreservesTyping p t (dispatched h y.owned_object s)) (sym it.1) well
       where
-        x : Seat
-        x = y.seat
+        x : OwnedObject
+        x = y.owned_object
 
         cs : List Cell
-        cs = with_request taken_up y.seat.object s.cells
+        cs = with_request taken_up y.owned_object.object s.cells
 
-        rests : Suits (thing_kind p y.seat.object.thing) (resting_in (states_of (thing_kind p y.seat.object.thing))) (Some y.request)
-        rests = subst (λ r. Suits (thing_kind p y.seat.object.thing) (resting_in (rests_in p y.seat.object)) r) it_is.asked (good.suits y.seat.object it_is.lives)
+        rests : ConformsTo (thing_kind p y.owned_object.object.thing) (resting_in (states_of (thing_kind p y.owned_object.object.thing))) (Some y.request)
+        rests = subst (λ r. ConformsTo (thing_kind p y.owned_object.object.thing) (resting_in (rests_in p y.owned_object.object)) r) it_is.asked (good.conforms_to y.owned_object.object it_is.lives)
 
-        it : (m : ℕ) × (part_of p Handles y.seat.object.thing ≡ Some m) × (c : ℕ) × (y.seat.object.thing ≡ An_object_of c) × IsHandler p c m
-        it = handler_of y.seat.object.thing (grind arith)
+        it : (m : ℕ) × (part_of p Handles y.owned_object.object.thing ≡ Some m) × (c : ℕ) × (y.owned_object.object.thing ≡ An_object_of c) × IsHandler p c m
+        it = handler_of y.owned_object.object.thing (grind arith)
 
-        sits : (above : List Seat) × AllSit s.cells (y.seat ∷ above)
-        sits = let c = chain p t wired s w idle_now y.seat.place y.seat.object it_is.there (subst (λ z. 0 < rank p wired z) (sym it.3) (omega arith)) in (c.0, c.1)
+        is_owned_chain : (above : List OwnedObject) × IsOwnedChain s.cells (y.owned_object ∷ above)
+        is_owned_chain = let c = chain p t wired s w idle_now y.owned_object.place y.owned_object.object it_is.there (subst (λ z. 0 < rank p wired z) (sym it.3) (omega arith)) in (c.0, c.1)
 
-        now : requested cs y.seat.object.name ≡ Some (taken_up y.request)
-        now = requested_here s.cells y.seat.object.name (on_request taken_up (requested s.cells y.seat.object.name)) y.seat.object it_is.lives
+        now : requested cs y.owned_object.object.name ≡ Some (taken_up y.request)
+        now = requested_here s.cells y.owned_object.object.name (on_request taken_up (requested s.cells y.owned_object.object.name)) y.owned_object.object it_is.lives
             ∙ ap (on_request taken_up) it_is.asked
 
-        sits_now : AllSit cs (y.seat ∷ sits.0)
-        sits_now = sits_alike p t s.cells cs (alike taken_up y.seat.object) (y.seat ∷ sits.0) sits.1
+        sits_now : IsOwnedChain cs (y.owned_object ∷ is_owned_chain.0)
+        sits_now = sits_alike p t s.cells cs (alike taken_up y.owned_object.object) (y.owned_object ∷ is_owned_chain.0) is_owned_chain.1
 
         over : List Layer
-        over = Mark Nothing ∷ Dispatching (Of_object y.seat) (y.seat ∷ sits.0) ∷ []
+        over = Mark Nothing ∷ Dispatching (Of_object y.owned_object) (y.owned_object ∷ is_owned_chain.0) ∷ []
 
-        claims : (d : Place → _) (r : Place) → claim p d (Mark Nothing ∷ Dispatching (Of_object y.seat) (y.seat ∷ sits.0) ∷ []) r ≡ d r
+        claims : (d : Place → _) (r : Place) → claim p d (Mark Nothing ∷ Dispatching (Of_object y.owned_object) (y.owned_object ∷ is_owned_chain.0) ∷ []) r ≡ d r
         claims d (Elsewhere Root) = refl
         claims d _ = refl
 
-        entering : Entering p t cs y.seat sits.0 over it.0 []
+        entering : Entering p t cs y.owned_object is_owned_chain.0 over it.0 []
         entering = record {
           served = false;
           message = ap is_service it.4.role;
@@ -256,82 +256,82 @@ module _ (p : Image) (t : Typing) (s : State) (w : WellTyped p t s) (idle_now : 
           some_in = λ n h. inl (inr h);
           joins = tt;
           past = refl;
-          stack = ((it.4.gives, tt, ap is_cancel it.4.role), (refl, refl, sits_now, (ap is_some now, sits.0, refl), tt));
-          fits = λ q. subst (λ k. Fits p (seen cs) (held cs q) k) (sym (plain_message (declared p cs) q)) (fits_then taken_up y.seat.object q);
-          own = subst (λ n. Suits (thing_kind p y.seat.object.thing) (resting_in n) (requested cs y.seat.object.name)) (sym it.4.begins)
-              (subst (λ r. Suits (thing_kind p y.seat.object.thing) (resting_in idle) r) (sym now) (grind arith));
-          others = λ z lives other. others_then taken_up y.seat.object z lives other;
-          tidy = (alike taken_up y.seat.object).tidy good.tidy;
-          sits = sits_now;
+          stack = ((it.4.gives, tt, ap is_cancel it.4.role), (refl, refl, sits_now, (ap is_some now, is_owned_chain.0, refl), tt));
+          fits = λ q. subst (λ k. Fits p (seen cs) (held cs q) k) (sym (plain_message (declared p cs) q)) (fits_then taken_up y.owned_object.object q);
+          own = subst (λ n. ConformsTo (thing_kind p y.owned_object.object.thing) (resting_in n) (requested cs y.owned_object.object.name)) (sym it.4.begins)
+              (subst (λ r. ConformsTo (thing_kind p y.owned_object.object.thing) (resting_in idle) r) (sym now) (grind arith));
+          others = λ z lives other. others_then taken_up y.owned_object.object z lives other;
+          no_duplicates = (alike taken_up y.owned_object.object).no_duplicates good.no_duplicates;
+          is_owned_chain = sits_now;
           there = it.4.there;
-          holder = houses_role p wired.family y.seat.object.thing it.2 it.0 it.3 it.4.family (ap (λ r. holder_by r (Some it.4.family.class)) it.4.role);
+          holder = receiver_conforms_role p wired.family y.owned_object.object.thing it.2 it.0 it.3 it.4.family (ap (λ r. holder_by r (Some it.4.family.class)) it.4.role);
           plain = ap is_cancel it.4.role;
           words = λ i. subst (λ xs. WordFits None (at Unset (map argument_kind xs) i)) (sym it.4.arguments) tt;
           free = λ i. subst (λ xs. Fits p (seen cs) None (at Unset (map argument_kind xs) i)) (sym it.4.arguments) tt;
           fields = λ f. ap (λ r. at Perhaps (entry_fields r) f) it.4.role ∙ at_alike 8 Perhaps f;
         }
 
-        well : WellTyped p t (picked it.0 y.seat s)
-        well = enters p t typed cs y.seat sits.0 over it.0 [] entering
-            (picked it.0 y.seat s) (length (A_mark ∷ s.items)) (ap (λ is. length (A_mark ∷ is)) items) refl refl (ap (λ is. forms (A_mark ∷ is)) items) w.undos
+        well : WellTyped p t (picked it.0 y.owned_object s)
+        well = enters p t typed cs y.owned_object is_owned_chain.0 over it.0 [] entering
+            (picked it.0 y.owned_object s) (length (A_mark ∷ s.items)) (ap (λ is. length (A_mark ∷ is)) items) refl refl (ap (λ is. forms (A_mark ∷ is)) items) w.undo_operations
 
     -- what waits in the queue of a server is served
-    server_well : (y : Candidate) → Found s.cells y → is_server p y.seat.object.thing ≡ true →
-        (queue : List Asked) → (service_of s.cells y.seat.object.name).queue ≡ queue → Keeps p t (serves_first p y.seat queue s)
+    server_well : (y : Candidate) → Found s.cells y → is_server p y.owned_object.object.thing ≡ true →
+        (queue : List Asked) → (service_of s.cells y.owned_object.object.name).queue ≡ queue → PreservesTyping p t (serves_first p y.owned_object queue s)
     server_well y it_is server [] e = absurd (true≢false (sym it_is.ready ∙ ap (λ q. is_ready y.request || has_more q) e
-        ∙ or_false (is_ready y.request) ∙ idles (thing_kind p y.seat.object.thing) y.request server (rw it_is.asked at (good.suits y.seat.object it_is.lives))))
+        ∙ or_false (is_ready y.request) ∙ idles (thing_kind p y.owned_object.object.thing) y.request server (rw it_is.asked at (good.conforms_to y.owned_object.object it_is.lives))))
     server_well y it_is server (Connect_of client ∷ es) e =
-        accepts_well p t wired typed s w idle_now fit y.seat y.request it_is.there it_is.lives it_is.asked server client es e
+        accepts_well p t wired typed s w idle_now fit y.owned_object y.request it_is.there it_is.lives it_is.asked server client es e
     server_well y it_is server (Message_of client m ∷ es) e =
-        attends_well p t wired typed s w idle_now fit y.seat y.request it_is.there it_is.lives it_is.asked server client m es e
+        attends_well p t wired typed s w idle_now fit y.owned_object y.request it_is.there it_is.lives it_is.asked server client m es e
     server_well y it_is server (Close_of client ∷ es) e =
-        parts_well p t wired typed s w idle_now fit y.seat y.request it_is.there it_is.lives it_is.asked server client es e
+        parts_well p t wired typed s w idle_now fit y.owned_object y.request it_is.there it_is.lives it_is.asked server client es e
 
-    pub picked_well : (y : Candidate) → first_ready s.cells ≡ Some y → Keeps p t (any_picked p y.seat s)
-    picked_well y e = go (is_server p y.seat.object.thing) refl
+    pub picked_well : (y : Candidate) → first_ready s.cells ≡ Some y → PreservesTyping p t (any_picked p y.owned_object s)
+    picked_well y e = go (is_server p y.owned_object.object.thing) refl
       where
         it_is : Found s.cells y
-        it_is = found s.cells good.tidy y e
+        it_is = found s.cells good.no_duplicates y e
 
-        go : (b : Bool) → is_server p y.seat.object.thing ≡ b → Keeps p t
-            (cond b (serves_first p y.seat (service_of s.cells y.seat.object.name).queue s) (dispatched (part_of p Handles y.seat.object.thing) y.seat s))
-        go true server = server_well y it_is server (service_of s.cells y.seat.object.name).queue refl
+        go : (b : Bool) → is_server p y.owned_object.object.thing ≡ b → PreservesTyping p t
+            (cond b (serves_first p y.owned_object (service_of s.cells y.owned_object.object.name).queue s) (dispatched (part_of p Handles y.owned_object.object.thing) y.owned_object s))
+        go true server = server_well y it_is server (service_of s.cells y.owned_object.object.name).queue refl
         go false plain = object_well y it_is (sym (or_false (is_ready y.request))
-            ∙ ap (λ q. is_ready y.request || has_more q) (sym (fit.servers y.seat.object it_is.lives plain).0) ∙ it_is.ready)
+            ∙ ap (λ q. is_ready y.request || has_more q) (sym (fit.servers y.owned_object.object it_is.lives plain).0) ∙ it_is.ready)
 
-    signal_well : (next : Option ℕ) → Keeps p t (turned p s (picks (has_signal s.cells) (first_ready s.cells) next))
+    signal_well : (next : Option ℕ) → PreservesTyping p t (turned p s (picks (has_signal s.cells) (first_ready s.cells) next))
     signal_well next = grind (arith, nat_tests, signals_are_ready p t s w, picked_well, same_well)
 
     -- one test after another, as a turn makes them
     poll_well : (n : Option ℕ) (answer : Option Completion) (after : Turning) →
-        AnswersWell p s (polls n answer after) → (AnswersWell p s after → Keeps p t (turned p s after)) → Keeps p t (turned p s (polls n answer after))
+        AnswersWell p s (polls n answer after) → (AnswersWell p s after → PreservesTyping p t (turned p s after)) → PreservesTyping p t (turned p s (polls n answer after))
     poll_well x answer after owed then = grind (arith, nat_tests, polled_well)
 
-    deliver_well : (outside : Environment) (name : ℕ) (event : Event) → named s.cells name ≡ None → Keeps p t (turned p s (delivers outside name s event))
-    deliver_well outside name x free = grind (arith, nat_tests, same_well, lives outside s, bereaved_well, commanded_well p t wired)
+    deliver_well : (outside : Environment) (name : ℕ) (event : Event) → named s.cells name ≡ None → PreservesTyping p t (turned p s (delivers outside name s event))
+    deliver_well outside name x free = grind (arith, nat_tests, same_well, lives outside s, detached_well, commanded_well p t wired)
 
     event_well : (outside : Environment) (name : ℕ) (next : Option TimedEvent) (after : Turning) → named s.cells name ≡ None → AnswersWell p s (by_event
-        outside name s next after) → (AnswersWell p s after → Keeps p t (turned p s after)) → Keeps p t (turned p s (by_event outside name s next after))
+        outside name s next after) → (AnswersWell p s after → PreservesTyping p t (turned p s after)) → PreservesTyping p t (turned p s (by_event outside name s next after))
     event_well outside name x after free owed then = grind (arith, nat_tests, deliver_well outside name)
 
-    timer_well : (next : Option Timed) (after : Turning) → AnswersWell p s (by_timer s next after) → (AnswersWell p s after → Keeps p t (turned p s after)) →
-        Keeps p t (turned p s (by_timer s next after))
+    timer_well : (next : Option Timed) (after : Turning) → AnswersWell p s (by_timer s next after) → (AnswersWell p s after → PreservesTyping p t (turned p s after)) →
+        PreservesTyping p t (turned p s (by_timer s next after))
     timer_well None after owed then = then owed
     timer_well (Some x) after owed then = go (nat_le x.timer.due s.rest.clock) owed
       where
-        go : (b : Bool) → AnswersWell p s (cond b (Completes x.object) after) → Keeps p t (turned p s (cond b (Completes x.object) after))
+        go : (b : Bool) → AnswersWell p s (cond b (Completes x.object) after) → PreservesTyping p t (turned p s (cond b (Completes x.object) after))
         go true owed = completed (pos 0) refl x.object s.rest
         go false owed = then owed
 
 pub turn_goes_on : TurnGoesOn
-turn_goes_on p t outside wired typed heard s w between hears fit = go (nat_le outside.limit s.rest.dispatches) hears.completion
+turn_goes_on p t outside wired typed observed s w between observes fit = go (nat_le outside.limit s.rest.dispatches) observes.completion
   where
-    go : (b : Bool) → AnswersWell p s (cond b Cuts (by_timer s (first_due s.cells) (by_event outside heard.name s
-        (next_event outside s) (polls (next_native outside s) heard.completion (picks (has_signal s.cells) (first_ready s.cells) (next_time outside s))))))
-        → Keeps p t (turned p s (cond b Cuts (by_timer s (first_due s.cells) (by_event outside heard.name s
-        (next_event outside s) (polls (next_native outside s) heard.completion (picks (has_signal s.cells) (first_ready s.cells) (next_time outside s)))))))
+    go : (b : Bool) → AnswersWell p s (cond b Cuts (by_timer s (first_due s.cells) (by_event outside observed.name s
+        (next_event outside s) (polls (next_native outside s) observed.completion (picks (has_signal s.cells) (first_ready s.cells) (next_time outside s))))))
+        → PreservesTyping p t (turned p s (cond b Cuts (by_timer s (first_due s.cells) (by_event outside observed.name s
+        (next_event outside s) (polls (next_native outside s) observed.completion (picks (has_signal s.cells) (first_ready s.cells) (next_time outside s)))))))
     go true owed = same_well p t s w between.idle _
     go false owed = timer_well p t s w between.idle wired typed fit (first_due s.cells) _ owed (λ owed.
-        event_well p t s w between.idle wired typed fit outside heard.name (next_event outside s) _ hears.name owed (λ owed.
-        poll_well p t s w between.idle wired typed fit (next_native outside s) heard.completion _ owed (λ owed.
+        event_well p t s w between.idle wired typed fit outside observed.name (next_event outside s) _ observes.name owed (λ owed.
+        poll_well p t s w between.idle wired typed fit (next_native outside s) observed.completion _ owed (λ owed.
         signal_well p t s w between.idle wired typed fit (next_time outside s))))

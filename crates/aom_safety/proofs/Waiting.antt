@@ -5,17 +5,17 @@ use Rattle.std.proofs.Common.{arith, List, None, Option, Some, ap, cond, is_some
 use Rattle.std.proofs.lemmas.Bool.{eq-eqb}
 use Rattle.aom_image.specs.Image.{Image}
 use Rattle.aom_image.specs.declared.method.Thing.{Thing}
-use Rattle.aom_shape.specs.Kinds.{field, filled}
-use Rattle.aom_shape.specs.Shape.{Shape}
+use Rattle.aom_abstract_state.specs.Kinds.{field, filled}
+use Rattle.aom_abstract_state.specs.AbstractState.{AbstractState}
 use Rattle.aom_roles.specs.Things.{field_thing, holder_of}
-use Rattle.aom_shape.specs.declared.kind.Filling.TheVariants.{Perhaps}
-use Rattle.aom_shape.specs.declared.kind.Kind.{Kind}
-use Rattle.aom_safety.specs.Claims.{Dying, Layer, Method, claim, home_claim, own_field}
+use Rattle.aom_abstract_state.specs.declared.kind.FieldState.TheVariants.{Perhaps}
+use Rattle.aom_abstract_state.specs.declared.kind.Kind.{Kind}
+use Rattle.aom_safety.specs.Claims.{Dying, Layer, Method, claim, receiver_claim, own_field}
 use Rattle.aom_semantics.specs.Places.{Field, Object, Place}
 use Rattle.aom_semantics.specs.State.{Frame, Inside, thing_holder}
-use Rattle.aom_safety.specs.WellTyped.{Houses, InView, IsApart, by_field, view_holder}
+use Rattle.aom_safety.specs.WellTyped.{ReceiverConforms, InView, IsApart, by_field, view_holder}
 
-module _ (p : Image) (fr : Frame) (o : Object) (from : Place) (home : fr.home ≡ Inside o from) where
+module _ (p : Image) (fr : Frame) (o : Object) (from : Place) (receiver : fr.receiver ≡ Inside o from) where
   abbrev Declares : ℕ → Kind
   Declares f = filled (field_thing p (thing_holder o.thing) f) Perhaps
 
@@ -26,14 +26,14 @@ module _ (p : Image) (fr : Frame) (o : Object) (from : Place) (home : fr.home �
   others_in_view [] apart f some none = apart.2.0 f some
   others_in_view (_ ∷ ls) apart f some none = apart.2.0 f some
 
-  pub waits_in_view : (sh : Shape) (ls : List Layer) → Houses p (thing_holder o.thing) (holder_of p fr.method) →
+  pub waits_in_view : (sh : AbstractState) (ls : List Layer) → ReceiverConforms p (thing_holder o.thing) (holder_of p fr.method) →
       IsApart p fr.view fr.method (Inside o from) ls → ((f : ℕ) → field sh f ≡ Perhaps) → InView p fr.view Declares o.name (Method fr sh ∷ ls)
-  waits_in_view sh ls houses apart perhaps f some =
+  waits_in_view sh ls receiver_conforms apart perhaps f some =
       let below = claim p (by_field Declares) ls (Field o.name f) in
-      ap (λ h. home_claim p (holder_of p fr.method) h sh o.name f below) home
+      ap (λ h. receiver_claim p (holder_of p fr.method) h sh o.name f below) receiver
       ∙ ap (λ b. cond b (own_field (field_thing p (holder_of p fr.method) f) (field sh f) below) below) (eq-eqb o.name _ refl)
       ∙ ap (λ y. own_field (field_thing p (holder_of p fr.method) f) y below) (perhaps f) ∙ own (field_thing p (holder_of p fr.method) f) refl
     where
       own : (x : Option Thing) → field_thing p (holder_of p fr.method) f ≡ x → own_field x Perhaps (claim p (by_field Declares) ls (Field o.name f)) ≡ Declares f
       own None is = others_in_view ls apart f some is
-      own (Some y) is = sym (ap (λ x. filled x Perhaps) (houses.fields f y is))
+      own (Some y) is = sym (ap (λ x. filled x Perhaps) (receiver_conforms.fields f y is))

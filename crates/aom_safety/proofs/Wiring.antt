@@ -15,7 +15,7 @@ use Rattle.aom_image.specs.Views.{is_quiet, leaves, leaves_in, method_at, method
 use Rattle.aom_instructions.specs.Fits.{InstrFits, limits}
 use Rattle.aom_image.specs.WellFormed.{MethodFits, WellFormed}
 use Rattle.aom_instructions.specs.declared.action.Action.TheVariants.{Call, PushOperation}
-use Rattle.aom_instructions.specs.declared.action.Manner.TheVariants.{Plain, Trapped}
+use Rattle.aom_instructions.specs.declared.action.CallMode.TheVariants.{Plain, Trapped}
 use Rattle.aom_instructions.specs.declared.instr.Instr.{Instr}
 use Rattle.aom_instructions.specs.declared.instr.Target.{Target}
 use Rattle.aom_instructions.specs.declared.limits.Limits.{Limits}
@@ -28,25 +28,25 @@ use Rattle.aom_image.specs.declared.method.Thing.TheVariants.{Object as An_objec
 use Rattle.aom_roles.specs.Classes.{is_session, is_session_in, is_session_kind, kind_in, sessions_at, sessions_in, sessions_of}
 use Rattle.aom_roles.specs.Shapes.{HasShape, IsCancel, IsConstruct, IsDo, IsMain, IsShaped, IsTrapped as ShapedTrapped, IsUndo as ShapedUndo}
 use Rattle.aom_roles.specs.Shapes.{NamesRoles, gives_left, gives_nothing, is_role, is_word, kind_of, gives_word, gives_object, is_object}
-use Rattle.aom_classes.specs.Linked.{IsLinked}
-use Rattle.aom_classes.specs.Needs.{HasActive, KindNeeds, NeedsMet}
-use Rattle.aom_classes.specs.Roles.{is_inherited, main_of, role_of, same_role}
-use Rattle.aom_safety.proofs.ClassesLemmas.{all_there, at_place, main_found, of_method, own_found, role_inherits, same_roles}
+use Rattle.aom_link_conditions.specs.Linked.{IsLinked}
+use Rattle.aom_link_conditions.specs.Needs.{HasActive, KindNeeds, NeedsMet}
+use Rattle.aom_link_conditions.specs.Roles.{is_inherited, main_of, role_of, same_role}
+use Rattle.aom_safety.proofs.LinkConditionsLemmas.{all_there, at_place, main_found, of_method, own_found, role_inherits, same_roles}
 use Rattle.aom_roles.specs.Things.{Member, field_thing, holder_of}
-use Rattle.aom_safety.proofs.FamiliesLemmas.{keeper}
+use Rattle.aom_safety.proofs.InheritanceLemmas.{keeper}
 use Rattle.aom_safety.proofs.Families.{family_kinds, linked_is_family, session_before}
-use Rattle.aom_safety.specs.Laws.{IsAcceptor, IsAnswerer, IsAttendant, IsCalled, IsHandler, IsTrapped, IsWired}
+use Rattle.aom_safety.specs.Laws.{IsAcceptor, IsAnswerer, IsServiceMethod, IsCalled, IsHandler, IsTrapped, IsWired}
 use Rattle.aom_safety.specs.WellTyped.{IsOfFamily, IsUndo, LeavesNone}
 use Rattle.aom_image.specs.declared.method.Argument.{Argument}
 use Rattle.aom_image.specs.declared.method.Argument.TheVariants.{Word as Takes_word}
 use Rattle.std.specs.List.{list_all}
 use Rattle.aom_roles.specs.States.{cancel_open, first_of, last_of, server_states, states_of}
-use Rattle.aom_rules.specs.Requests.{own_kind, unissued}
-use Rattle.aom_shape.specs.Arguments.{after_in, after_of, before_in, before_of}
+use Rattle.aom_typing_rules.specs.Requests.{own_kind, unissued}
+use Rattle.aom_abstract_state.specs.Arguments.{after_in, after_of, before_in, before_of}
 use Rattle.aom_image.specs.declared.class.ClassKind.{ClassKind}
 use Rattle.aom_image.specs.declared.class.ClassKind.TheVariants.{Active as An_active, Server as A_server}
 use Rattle.aom_roles.specs.Kinds.{is_active_kind}
-use Rattle.aom_safety.proofs.ShapeLemmas.{has_along}
+use Rattle.aom_safety.proofs.AbstractStateLemmas.{has_along}
 
 nothing_given : (g : Gives) → gives_nothing g ≡ true → g ≡ Nothing
 unfolding gives_nothing
@@ -191,7 +191,7 @@ module _ (p : Image) (formed : WellFormed p) (linked : IsLinked p) where
   unfolding role_in class_in arguments_in gives_in before_in kind_of
   acceptor_is c session m serves e = search (arith, nat_tests, own_its_role c m Accept, nil_from_length, object_given session)
 
-  attendant_is : (c m : ℕ) → role_of p c Service ≡ Some m → IsAttendant p c m
+  attendant_is : (c m : ℕ) → role_of p c Service ≡ Some m → IsServiceMethod p c m
   unfolding role_in class_in arguments_in gives_in kind_of
   attendant_is c m e = search (arith, nat_tests, own_its_role c m Service, words_alone 5, nothing_given)
 
@@ -204,9 +204,9 @@ module _ (p : Image) (formed : WellFormed p) (linked : IsLinked p) where
   has_attendant c session serves = (of_session session (session_before p linked c session serves).1).0
 
   -- what may leave is not quiet
-  loud : (m : ℕ) → leaves p m ≡ true → is_quiet p m ≡ false
+  nonquiet : (m : ℕ) → leaves p m ≡ true → is_quiet p m ≡ false
   unfolding leaves_in quiet_in
-  loud m e = some_given (λ o. leaves_in o ≡ true) (method_at p m) e (λ none. cc)
+  nonquiet m e = some_given (λ o. leaves_in o ≡ true) (method_at p m) e (λ none. cc)
       (λ d f e. ap quiet_in f ∙ (elim (cases_Bool (quiet_in (Some d))) as (λ x. quiet_in (Some d) ≡ false) [
         | inl q ↦ absurd (true≢false (sym e ∙ (shaped m d f).flags.quiet q))
         | inr q ↦ q
@@ -318,7 +318,7 @@ linked_is_wired p formed linked = record {
   handles = handler_is p formed linked;
   answers = answerer_is p formed linked;
   cancels = cancel_is p formed linked;
-  quiets = loud p formed linked;
+  quiets = nonquiet p formed linked;
   called = called_is p formed linked;
   trapped = trapped_is p formed linked;
   pushed = pushed_is p formed linked;

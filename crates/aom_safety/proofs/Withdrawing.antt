@@ -7,18 +7,18 @@ use Rattle.std.specs.Prelude.{filter, not, ◌||◌, ◌⊎◌}
 use Rattle.aom_image.specs.Image.{Image}
 use Rattle.aom_image.specs.declared.method.Thing.TheVariants.{Message}
 use Rattle.aom_clients.specs.declared.client.Client.{Client}
-use Rattle.aom_rules.specs.Typing.{Typing}
-use Rattle.aom_shape.specs.Kinds.{filled}
-use Rattle.aom_shape.specs.declared.kind.Filling.TheVariants.{Full}
-use Rattle.aom_shape.specs.declared.kind.Kind.{Kind}
-use Rattle.aom_shape.specs.declared.kind.Kind.TheVariants.{Null}
+use Rattle.aom_typing_rules.specs.Typing.{Typing}
+use Rattle.aom_abstract_state.specs.Kinds.{filled}
+use Rattle.aom_abstract_state.specs.declared.kind.FieldState.TheVariants.{Full}
+use Rattle.aom_abstract_state.specs.declared.kind.Kind.{Kind}
+use Rattle.aom_abstract_state.specs.declared.kind.Kind.TheVariants.{Null}
 use Rattle.aom_safety.proofs.Claimed.{declared_ready}
 use Rattle.aom_safety.proofs.ClientsLeave.{service_left}
 use Rattle.aom_safety.proofs.SemanticsLemmas.{named_name}
 use Rattle.aom_safety.proofs.Picking.{fits_ready}
 use Rattle.aom_safety.proofs.Queues.{none_stays}
-use Rattle.aom_safety.proofs.Sifted.{cell_in, cell_in_sifted, cell_lives, cell_of, cell_of_sifted, cell_owner, cell_placed, held_cell, kept, named_cell}
-use Rattle.aom_safety.proofs.Sifted.{object_in, request_in, requested_cell, service_cell, service_in, sifted, tidy_sifted, withdrawn_so}
+use Rattle.aom_safety.proofs.FilteredCells.{cell_in, cell_in_filtered_cells, cell_lives, cell_of, cell_of_filtered_cells, cell_owner, cell_placed, held_cell, kept, named_cell}
+use Rattle.aom_safety.proofs.FilteredCells.{object_in, request_in, requested_cell, service_cell, service_in, filtered_cells, tidy_filtered_cells, withdrawn_so}
 use Rattle.aom_safety.specs.Claims.{declared}
 use Rattle.aom_safety.specs.Kept.{ClientsFit, is_message_of}
 use Rattle.aom_semantics.specs.Places.{Asked, Cell, Close_of, Connect_of, Elsewhere, Message_of, Object, Place}
@@ -66,7 +66,7 @@ module _ (p : Image) (t : Typing) (clients : List Client) (cs : List Cell) (good
   drops x = is_queue x.owner && is_from c x.service.sender
 
   abbrev left : List Cell
-  left = sifted drops (λ x. left_by c x.service) cs
+  left = filtered_cells drops (λ x. left_by c x.service) cs
 
   abbrev after : Option Cell → Option Cell
   after x = kept drops (λ x. left_by c x.service) x
@@ -75,11 +75,11 @@ module _ (p : Image) (t : Typing) (clients : List Client) (cs : List Cell) (good
   waiting n m o e = message_plain p o.thing (message n m o e)
 
   service_now : (n : ℕ) → ((service_of left n).queue ≡ filter (stays c) (service_of cs n).queue) × ((service_of left n).sessions ≡ (service_of cs n).sessions)
-  service_now n = grind (arith, nat_tests, service_left p clients cs good.tidy fit c waiting n, waiting n, withdrawn_so c cs)
+  service_now n = grind (arith, nat_tests, service_left p clients cs good.no_duplicates fit c waiting n, waiting n, withdrawn_so c cs)
 
   -- what is in no queue stays
   stays_held : (q : Place) → is_queue q ≡ false → held left q ≡ held cs q
-  stays_held q apart = grind (arith, nat_tests, held_cell, object_in, cell_in_sifted, cell_in, cell_owner)
+  stays_held q apart = grind (arith, nat_tests, held_cell, object_in, cell_in_filtered_cells, cell_in, cell_owner)
 
   -- a name is of what it was, or was of a message that is gone
   abbrev IsNamed : ℕ → Type 0
@@ -94,7 +94,7 @@ module _ (p : Image) (t : Typing) (clients : List Client) (cs : List Cell) (good
       go _ at h = cc
 
   name_left : (n : ℕ) → IsNamed n
-  name_left n = grind (arith, nat_tests, cell_of, object_in, named_cell, cell_of_sifted, request_in, requested_cell, goes_message)
+  name_left n = grind (arith, nat_tests, cell_of, object_in, named_cell, cell_of_filtered_cells, request_in, requested_cell, goes_message)
 
   base : (q : Place) → Fits p (seen left) (held cs q) (declared p cs q)
   base q = fits_ready p (seen cs) (seen left) (held cs q) (declared p cs q) (declared_ready p cs q) (good.fits q)
@@ -114,7 +114,7 @@ module _ (p : Image) (t : Typing) (clients : List Client) (cs : List Cell) (good
     kind_now = grind (arith, nat_tests, service_now n, name_left, message_plain)
 
     held_now : (x : Option Cell) → cell_in cs q ≡ x → held left q ≡ object_in (after x)
-    held_now x e = held_cell left q ∙ ap object_in (cell_in_sifted drops (λ x. left_by c x.service) cs q good.tidy ∙ ap after e)
+    held_now x e = held_cell left q ∙ ap object_in (cell_in_filtered_cells drops (λ x. left_by c x.service) cs q good.no_duplicates ∙ ap after e)
 
     was : (x : Option Cell) → cell_in cs q ≡ x → held cs q ≡ object_in x
     was x e = held_cell cs q ∙ ap object_in e
@@ -134,14 +134,14 @@ module _ (p : Image) (t : Typing) (clients : List Client) (cs : List Cell) (good
         name = fit.names n m x.object (was (Some x) e)
 
         sender : (d : ℕ) → list_any (is_message_of d m) (service_of cs n).queue ≡ true → is_from d x.service.sender ≡ true
-        sender d h = rw (service_cell cs m ∙ ap service_in (ap (λ k. cell_of cs k) (sym name) ∙ cell_lives cs q x good.tidy e)) at (fit.senders n d m h)
+        sender d h = rw (service_cell cs m ∙ ap service_in (ap (λ k. cell_of cs k) (sym name) ∙ cell_lives cs q x good.no_duplicates e)) at (fit.senders n d m h)
     some_fits x e false from true has f = rw (stays_there c m (service_of cs n).queue (λ d h. from_apart c d x.service.sender from (sender d h)) has) f
       where
         name : x.object.name ≡ m
         name = fit.names n m x.object (was (Some x) e)
 
         sender : (d : ℕ) → list_any (is_message_of d m) (service_of cs n).queue ≡ true → is_from d x.service.sender ≡ true
-        sender d h = rw (service_cell cs m ∙ ap service_in (ap (λ k. cell_of cs k) (sym name) ∙ cell_lives cs q x good.tidy e)) at (fit.senders n d m h)
+        sender d h = rw (service_cell cs m ∙ ap service_in (ap (λ k. cell_of cs k) (sym name) ∙ cell_lives cs q x good.no_duplicates e)) at (fit.senders n d m h)
 
     queue_fits : Fits p (seen left) (held left q) (declared p left q)
     queue_fits = subst (λ k. Fits p (seen left) (held left q) k) (sym kind_now) (go (cell_in cs q) refl)
@@ -156,4 +156,4 @@ module _ (p : Image) (t : Typing) (clients : List Client) (cs : List Cell) (good
   fits r = grind (arith, nat_tests, stays_held, base, name_left, service_now, named_name, message_plain, queue_fits)
 
   pub good_withdrawn : Good p t (withdrawn c cs) []
-  good_withdrawn = search (arith, nat_tests, withdrawn_so c cs, fits, name_left, tidy_sifted)
+  good_withdrawn = search (arith, nat_tests, withdrawn_so c cs, fits, name_left, tidy_filtered_cells)

@@ -4,12 +4,12 @@ use Rattle.std.proofs.Common.{Bool, List, Option, Some, ap, refl, true, ℕ, ℤ
 use Rattle.std.specs.Prelude.{is_none, is_some, length, int_lt}
 use Rattle.aom_image.specs.Image.{Image}
 use Rattle.aom_instructions.specs.declared.instr.Instr.TheVariants.{Const, Copy, Load, Print, Store, Add, And, JumpEqual, JumpLess, Mul, Or, Sub, Xor}
-use Rattle.aom_shape.specs.Kinds.{is_unowning, is_word, register, set_register}
-use Rattle.aom_shape.specs.Shape.{Shape}
-use Rattle.aom_rules.specs.Typing.{AllLead, Typing}
-use Rattle.aom_rules.specs.Words.{flow_compare, flow_word, rule_combine, rule_compare}
-use Rattle.aom_shape.specs.declared.kind.Kind.{Kind}
-use Rattle.aom_shape.specs.declared.kind.Kind.TheVariants.{Word}
+use Rattle.aom_abstract_state.specs.Kinds.{is_unowning, is_word, register, set_register}
+use Rattle.aom_abstract_state.specs.AbstractState.{AbstractState}
+use Rattle.aom_typing_rules.specs.Typing.{AllLead, Typing}
+use Rattle.aom_typing_rules.specs.Words.{flow_compare, flow_word, rule_combine, rule_compare}
+use Rattle.aom_abstract_state.specs.declared.kind.Kind.{Kind}
+use Rattle.aom_abstract_state.specs.declared.kind.Kind.TheVariants.{Word}
 use Rattle.aom_safety.proofs.Jumps.{goes_either}
 use Rattle.aom_safety.proofs.Storing.{stored_fitted}
 use Rattle.aom_safety.proofs.Straight.{At, Law, fitted, free_register, settle, stepped, well, write}
@@ -28,13 +28,13 @@ use Rattle.aom_roles.specs.Tests.{AllTrue}
 pub is_read : (w : Option ℤ) (k : Kind) → is_word k ≡ true → WordFits w k → is_some w ≡ true
 is_read x y e f = grind arith
 
-module _ (p : Image) (t : Typing) (c : Choice) (s : State) (fr : Frame) (sh : Shape) (ls : List Layer) (at_hand : At p t s fr sh ls) where
+module _ (p : Image) (t : Typing) (c : Choice) (s : State) (fr : Frame) (sh : AbstractState) (ls : List Layer) (has_task : At p t s fr sh ls) where
   -- a register that is claimed to be a word has one
   pub has_word : (a : ℕ) → is_word (register sh a) ≡ true → is_some (word fr a) ≡ true
-  has_word a e = is_read (word fr a) (register sh a) e (at_hand.good.stack.1.words a)
+  has_word a e = is_read (word fr a) (register sh a) e (has_task.good.stack.1.words a)
 
   pub unowned : (a : ℕ) → is_unowning (register sh a) ≡ true → is_none (held s.cells (Register (length (tasks_of ls)) a)) ≡ true
-  unowned a e = ap is_none (free_register p t c s fr sh ls at_hand a e)
+  unowned a e = ap is_none (free_register p t c s fr sh ls has_task a e)
 
   -- a word is written
   pub writes_word : (a : ℕ) (w : ℤ) → is_unowning (register sh a) ≡ true → AllLead t fr.method (flow_word fr.place sh a) →
@@ -42,14 +42,14 @@ module _ (p : Image) (t : Typing) (c : Choice) (s : State) (fr : Frame) (sh : Sh
   writes_word a w u leads =
       let fr' = set_word fr a (Some w) in
       let sh' = set_register sh a Word in
-      let h = write p t s.cells fr sh ls a (Some w) Word (fitted p t s.cells fr sh ls at_hand.good) u (λ h. tt) tt in
-      well p t c s fr sh ls at_hand (applied p fr (tasks_of ls) s (writes fr a w))
-      (next fr') sh' refl at_hand.items at_hand.undos (settle p t s.cells (next fr') sh' ls (stepped p t s.cells fr' sh' ls h) leads.0)
+      let h = write p t s.cells fr sh ls a (Some w) Word (fitted p t s.cells fr sh ls has_task.good) u (λ h. tt) tt in
+      well p t c s fr sh ls has_task (applied p fr (tasks_of ls) s (writes fr a w))
+      (next fr') sh' refl has_task.items has_task.undo_operations (settle p t s.cells (next fr') sh' ls (stepped p t s.cells fr' sh' ls h) leads.0)
 
-  pub law_const : (a : ℕ) (w : ℤ) → Law p t c s fr sh ls at_hand (Const a w)
+  pub law_const : (a : ℕ) (w : ℤ) → Law p t c s fr sh ls has_task (Const a w)
   law_const a w n leads = ((unowned a n.0, tt), writes_word a w n.0 leads)
 
-  pub law_copy : (a b : ℕ) → Law p t c s fr sh ls at_hand (Copy a b)
+  pub law_copy : (a b : ℕ) → Law p t c s fr sh ls has_task (Copy a b)
   law_copy a b n leads = ((has_word b n.0, (unowned a n.1.0, tt)), writes_word a (read fr (tasks_of ls) s b) n.1.0 leads)
 
   pub law_binary : (op : ℤ → ℤ → ℤ) (a b x : ℕ) → AllTrue (rule_combine fr.place sh a b x) → AllLead t fr.method (flow_word fr.place sh a) →
@@ -59,24 +59,24 @@ module _ (p : Image) (t : Typing) (c : Choice) (s : State) (fr : Frame) (sh : Sh
   pub law_compare : (test : ℤ → ℤ → Bool) (a b to : ℕ) →
       AllTrue (rule_compare fr.place sh a b) → AllLead t fr.method (flow_compare fr.place sh to) → AllTrue (needs_compare fr (tasks_of ls) s a b) ×
       WellTyped p t (applied p fr (tasks_of ls) s (jumps_if fr (test (read fr (tasks_of ls) s a) (read fr (tasks_of ls) s b)) to))
-  law_compare test a b to n leads = search (arith, nat_tests, has_word a n.0, has_word b n.1.0, goes_either p t c s fr sh ls at_hand to leads)
+  law_compare test a b to n leads = search (arith, nat_tests, has_word a n.0, has_word b n.1.0, goes_either p t c s fr sh ls has_task to leads)
 
-  pub law_print : (a : ℕ) → Law p t c s fr sh ls at_hand (Print a)
+  pub law_print : (a : ℕ) → Law p t c s fr sh ls has_task (Print a)
   law_print a n leads =
-      ((has_word a n.0, tt), well p t c s fr sh ls at_hand _ (next fr) sh refl at_hand.items at_hand.undos (grind (arith, nat_tests, settle, stepped, fitted)))
+      ((has_word a n.0, tt), well p t c s fr sh ls has_task _ (next fr) sh refl has_task.items has_task.undo_operations (grind (arith, nat_tests, settle, stepped, fitted)))
 
-  pub law_load : (a w : ℕ) → Law p t c s fr sh ls at_hand (Load a w)
-  law_load a w n leads = ((n.0, (unowned a n.1.0, tt)), writes_word a (loaded s.cells fr.home w) n.1.0 leads)
+  pub law_load : (a w : ℕ) → Law p t c s fr sh ls has_task (Load a w)
+  law_load a w n leads = ((n.0, (unowned a n.1.0, tt)), writes_word a (loaded s.cells fr.receiver w) n.1.0 leads)
 
-  pub law_store : (w b : ℕ) → Law p t c s fr sh ls at_hand (Store w b)
+  pub law_store : (w b : ℕ) → Law p t c s fr sh ls has_task (Store w b)
   law_store w b n leads =
       let v = read fr (tasks_of ls) s b in
-      let cs = stored s.cells fr.home w v in
-      let h = stepped p t cs fr sh ls (stored_fitted p t s.cells fr.home w v fr sh ls (fitted p t s.cells fr sh ls at_hand.good)) in
-      ((n.0, (has_word b n.1.0, tt)), well p t c s fr sh ls at_hand (does p c fr (tasks_of ls) s (Store w b)) (next fr) sh refl at_hand.items at_hand.undos (settle p t cs (next fr) sh ls h leads.0))
+      let cs = stored s.cells fr.receiver w v in
+      let h = stepped p t cs fr sh ls (stored_fitted p t s.cells fr.receiver w v fr sh ls (fitted p t s.cells fr sh ls has_task.good)) in
+      ((n.0, (has_word b n.1.0, tt)), well p t c s fr sh ls has_task (does p c fr (tasks_of ls) s (Store w b)) (next fr) sh refl has_task.items has_task.undo_operations (settle p t cs (next fr) sh ls h leads.0))
 
   -- each instruction of this file by its law
-  abbrev pub of_words : (i : Instr) → Option (Law p t c s fr sh ls at_hand i)
+  abbrev pub of_words : (i : Instr) → Option (Law p t c s fr sh ls has_task i)
   of_words (Const a w) = Some (law_const a w)
   of_words (Copy a b) = Some (law_copy a b)
   of_words (Add a b x) = Some (law_binary (int_wrapping_add w32) a b x)

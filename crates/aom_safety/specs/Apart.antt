@@ -8,10 +8,10 @@ use Rattle.aom_safety.specs.Kept.{ClientsFit, TasksKept}
 use Rattle.aom_semantics.specs.Places.{Asked, Cell, Close_of, Connect_of, Elsewhere, In_service, Issued, Message_of, Place, Queued, Root, Sender, unserved}
 use Rattle.aom_semantics.specs.Tokens.{TokensApart}
 use Rattle.aom_semantics.specs.Requests.{pending}
-use Rattle.aom_semantics.specs.State.{Accept_left, Accepts, Dispatched, Of_server, Parts, Stage}
+use Rattle.aom_semantics.specs.State.{Accept_left, Accepts, Dispatched, Of_server, Disconnects, Stage}
 use Rattle.aom_semantics.specs.Cases.Building.{a_cell, pair}
 use Rattle.aom_semantics.specs.Cases.Moves.{an_image}
-use Rattle.aom_semantics.specs.Cases.Servers.{a_server, a_session, asked, listed, seat}
+use Rattle.aom_semantics.specs.Cases.Servers.{a_server, a_session, asked, listed, owned_object}
 
 -- clients that are at that, and these cells
 abbrev pub Fit : List Client → List Cell → Type 0
@@ -32,7 +32,7 @@ abbrev pub serves : List Asked → List ℕ → Cell
 serves queue sessions = listed (a_server (record { queue = queue; sessions = sessions; sender = None; token = None }))
 
 abbrev pub by_client : ℕ → Option Sender
-by_client client = Some (record { client = client; holds_slot = true; is_told = true })
+by_client client = Some (record { client = client; holds_slot = true; is_reported = true })
 
 -- what that client sent: such a thing, in that place
 abbrev pub sent : Thing → Option Sender → Place → Cell
@@ -55,7 +55,7 @@ awaiting name order = record (a_cell name pair (Elsewhere Root)) { request = Som
 
 -- that stage of the server's dispatch is at hand for client 0
 abbrev pub Serving : List Client → Cell → Stage → Type 0
-Serving clients cell stage = TasksKept an_image clients (cell ∷ []) (Dispatched (Of_server seat 0 stage) ∷ [])
+Serving clients cell stage = TasksKept an_image clients (cell ∷ []) (Dispatched (Of_server owned_object 0 stage) ∷ [])
 
 pub record KeptNeedsFail : Type 0 where
   -- the session is listed, and a message of the client waits
@@ -102,6 +102,6 @@ pub record KeptNeedsFail : Type 0 where
   pub accepts_again : Serving connecting (serves (Connect_of 0 ∷ []) []) Accepts → ⊥
   pub accepts_too_many : Serving connecting (serves [] (1 ∷ [])) Accepts → ⊥
   pub leaves_nobody : Serving [] (serves [] []) (Accept_left (pos 7)) → ⊥
-  pub parts : Serving leaving (serves [] (0 ∷ [])) Parts
-  pub parts_with_nobody : Serving opened (serves [] (0 ∷ [])) Parts → ⊥
-  pub parts_again : Serving leaving (serves (Close_of 0 ∷ []) (0 ∷ [])) Parts → ⊥
+  pub parts : Serving leaving (serves [] (0 ∷ [])) Disconnects
+  pub parts_with_nobody : Serving opened (serves [] (0 ∷ [])) Disconnects → ⊥
+  pub parts_again : Serving leaving (serves (Close_of 0 ∷ []) (0 ∷ [])) Disconnects → ⊥

@@ -3,24 +3,24 @@ use Rattle.std.specs.Prelude.{ℕ, ℤ, Bool, true, false, cond, ◌==◌, map, 
 use Rattle.aom_image.specs.Image.{Image}
 use Rattle.aom_image.specs.declared.method.Gives.{Gives}
 use Rattle.aom_roles.specs.Things.{Holder, Program, field_thing, holder_of}
-use Rattle.aom_shape.specs.Shape.{Shape}
-use Rattle.aom_shape.specs.Kinds.{entry_kind, filled, register, field}
-use Rattle.aom_shape.specs.declared.kind.Age.TheVariants.{Ready}
-use Rattle.aom_shape.specs.declared.kind.CleanupEntry.{CleanupEntry}
-use Rattle.aom_shape.specs.declared.kind.CleanupEntry.TheVariants.{Object as Pushed_object, Operation as Pushed_operation}
-use Rattle.aom_shape.specs.declared.kind.Filling.{Filling}
-use Rattle.aom_shape.specs.declared.kind.Filling.TheVariants.{Perhaps, Full}
-use Rattle.aom_shape.specs.declared.kind.Kind.{Kind}
-use Rattle.aom_shape.specs.declared.kind.Kind.TheVariants.{Null, Own}
+use Rattle.aom_abstract_state.specs.AbstractState.{AbstractState}
+use Rattle.aom_abstract_state.specs.Kinds.{entry_kind, filled, register, field}
+use Rattle.aom_abstract_state.specs.declared.kind.InitState.TheVariants.{Ready}
+use Rattle.aom_abstract_state.specs.declared.kind.CleanupEntry.{CleanupEntry}
+use Rattle.aom_abstract_state.specs.declared.kind.CleanupEntry.TheVariants.{Object as Pushed_object, Operation as Pushed_operation}
+use Rattle.aom_abstract_state.specs.declared.kind.FieldState.{FieldState}
+use Rattle.aom_abstract_state.specs.declared.kind.FieldState.TheVariants.{Perhaps, Full}
+use Rattle.aom_abstract_state.specs.declared.kind.Kind.{Kind}
+use Rattle.aom_abstract_state.specs.declared.kind.Kind.TheVariants.{Null, Own}
 use Rattle.aom_image.specs.Views.{method_role}
 use Rattle.aom_image.specs.declared.method.Thing.{Thing}
 use Rattle.aom_image.specs.declared.method.Thing.TheVariants.{Message}
 use Rattle.aom_roles.specs.Roles.{is_service}
-use Rattle.aom_shape.specs.declared.kind.Delivery.{Delivery}
-use Rattle.aom_shape.specs.declared.kind.Delivery.TheVariants.{Here, Gone}
+use Rattle.aom_abstract_state.specs.declared.kind.MessageState.{MessageState}
+use Rattle.aom_abstract_state.specs.declared.kind.MessageState.TheVariants.{Here, Gone}
 use Rattle.aom_semantics.specs.Servers.{message_thing, has_message, has_session, session_thing, is_among}
 use Rattle.aom_semantics.specs.Places.{Place, Register, Entry, Field, Going, Elsewhere, Other, Root, Session, In_service, Queued, Object, Cell, named, service_of}
-use Rattle.aom_semantics.specs.State.{Home, Static, AtRoot, Inside, Frame, Dispatch, Of_root, Seat, Task, Run, Trapped, Destroy, Unwind, Dispatched, Item, An_object, An_operation, A_mark, thing_holder, Closing, Of_server, Serves, Service_left, Parts}
+use Rattle.aom_semantics.specs.State.{Receiver, Static, AtRoot, Inside, Frame, Dispatch, Of_root, OwnedObject, Task, Run, Trapped, Destroy, Unwind, Dispatched, Item, An_object, An_operation, A_mark, thing_holder, Closing, Of_server, Serves, Service_left, Disconnects}
 
 -- the method serves messages
 abbrev pub serves : Image → ℕ → Bool
@@ -28,13 +28,13 @@ serves p m = is_service (method_role p m)
 
 -- what stands behind a task: a method with its abstract state, a trap's mark, a cell that is going, a leave with the entries that are still to unwind, or a dispatch with the seats from its object's up to the root
 pub data Layer : Type 0 where
-  Method : Frame → Shape → Layer
+  Method : Frame → AbstractState → Layer
   Mark : (gives : Gives) → Layer
   Dying : Object → Layer
   -- these sessions with a server that is going go first
   Ending : Object → (left : List ℕ) → Layer
   Unwinding : (code : ℤ) (entries : List CleanupEntry) → Layer
-  Dispatching : Dispatch → (seats : List Seat) → Layer
+  Dispatching : Dispatch → (owned_chain : List OwnedObject) → Layer
 
 abbrev pub task_of : Layer → Task
 task_of (Method fr sh) = Run fr
@@ -42,7 +42,7 @@ task_of (Mark gv) = Trapped
 task_of (Dying o) = Destroy
 task_of (Ending o left) = Closing
 task_of (Unwinding code es) = Unwind code
-task_of (Dispatching d seats) = Dispatched d
+task_of (Dispatching d owned_chain) = Dispatched d
 
 abbrev pub tasks_of : List Layer → List Task
 tasks_of [] = []
@@ -54,7 +54,7 @@ entries_of (Mark gv) = []
 entries_of (Dying o) = []
 entries_of (Ending o left) = []
 entries_of (Unwinding code es) = es
-entries_of (Dispatching d seats) = []
+entries_of (Dispatching d owned_chain) = []
 
 -- what is known of an item of the cleanup stack
 pub data Form : Type 0 where
@@ -85,7 +85,7 @@ layer_items (Mark gv) below = Mark_form ∷ below
 layer_items (Dying o) below = below
 layer_items (Ending o left) below = below
 layer_items (Unwinding code es) below = objects es below
-layer_items (Dispatching d seats) below = below
+layer_items (Dispatching d owned_chain) below = below
 
 abbrev pub items_of : List Layer → List Form
 items_of [] = []
@@ -102,25 +102,25 @@ register_claim (Mark gv) depth f i below = below
 register_claim (Dying o) depth f i below = below
 register_claim (Ending o left) depth f i below = below
 register_claim (Unwinding code es) depth f i below = below
-register_claim (Dispatching d seats) depth f i below = below
+register_claim (Dispatching d owned_chain) depth f i below = below
 
 -- of the fields that the method's class declares a method claims what it knows, and of the others what is claimed below
-abbrev pub own_field : Option Thing → Filling → Kind → Kind
+abbrev pub own_field : Option Thing → FieldState → Kind → Kind
 own_field None x below = below
 own_field (Some t) x below = filled (Some t) x
 
-abbrev pub home_claim : Image → Holder → Home → Shape → ℕ → ℕ → Kind → Kind
-home_claim p h Static sh n f below = below
-home_claim p h AtRoot sh n f below = below
-home_claim p h (Inside o from) sh n f below = cond (o.name == n) (own_field (field_thing p h f) (field sh f) below) below
+abbrev pub receiver_claim : Image → Holder → Receiver → AbstractState → ℕ → ℕ → Kind → Kind
+receiver_claim p h Static sh n f below = below
+receiver_claim p h AtRoot sh n f below = below
+receiver_claim p h (Inside o from) sh n f below = cond (o.name == n) (own_field (field_thing p h f) (field sh f) below) below
 
 abbrev pub field_claim : Image → Layer → ℕ → ℕ → Kind → Kind
-field_claim p (Method fr sh) n f below = home_claim p (holder_of p fr.method) fr.home sh n f below
+field_claim p (Method fr sh) n f below = receiver_claim p (holder_of p fr.method) fr.receiver sh n f below
 field_claim p (Mark gv) n f below = below
 field_claim p (Dying o) n f below = cond (o.name == n) Null below
 field_claim p (Ending o left) n f below = cond (o.name == n) (filled (field_thing p (thing_holder o.thing) f) Perhaps) below
 field_claim p (Unwinding code es) n f below = below
-field_claim p (Dispatching d seats) n f below = below
+field_claim p (Dispatching d owned_chain) n f below = below
 
 abbrev pub going_claim : Layer → ℕ → ℕ → Kind → Kind
 going_claim (Method fr sh) depth k below = below
@@ -128,9 +128,9 @@ going_claim (Mark gv) depth k below = below
 going_claim (Dying o) depth k below = cond (depth == k) (Own o.thing Ready) below
 going_claim (Ending o left) depth k below = below
 going_claim (Unwinding code es) depth k below = below
-going_claim (Dispatching d seats) depth k below = below
+going_claim (Dispatching d owned_chain) depth k below = below
 
-abbrev pub root_claim : Image → Home → Shape → Kind → Kind
+abbrev pub root_claim : Image → Receiver → AbstractState → Kind → Kind
 root_claim p Static sh below = below
 root_claim p AtRoot sh below = filled (field_thing p Program 0) (field sh 0)
 root_claim p (Inside o from) sh below = below
@@ -142,16 +142,16 @@ is_of_root _ = false
 
 -- what a layer claims of the root
 abbrev pub by_root : Image → Layer → Kind → Kind
-by_root p (Method fr sh) below = root_claim p fr.home sh below
+by_root p (Method fr sh) below = root_claim p fr.receiver sh below
 by_root p (Mark gv) below = below
 by_root p (Dying o) below = below
 by_root p (Ending o left) below = below
 by_root p (Unwinding code es) below = below
-by_root p (Dispatching d seats) below = cond (is_of_root d) Null below
+by_root p (Dispatching d owned_chain) below = cond (is_of_root d) Null below
 
 -- what a layer claims of the session of a client: of a server that is going those that are left are there and no other, and none of a client whose close is served
 abbrev pub by_close : Dispatch → ℕ → ℕ → Kind → Kind
-by_close (Of_server x client Parts) s c below = cond ((x.object.name == s) && (client == c)) Null below
+by_close (Of_server x client Disconnects) s c below = cond ((x.object.name == s) && (client == c)) Null below
 by_close _ s c below = below
 
 abbrev pub by_session : Image → Layer → ℕ → ℕ → Kind → Kind
@@ -160,10 +160,10 @@ by_session p (Mark gv) s c below = below
 by_session p (Dying o) s c below = cond (o.name == s) Null below
 by_session p (Ending o left) s c below = cond (o.name == s) (cond (is_among c left) (filled (session_thing p (Some o)) Full) Null) below
 by_session p (Unwinding code es) s c below = below
-by_session p (Dispatching d seats) s c below = by_close d s c below
+by_session p (Dispatching d owned_chain) s c below = by_close d s c below
 
 -- of the message that is served: it is there until it is taken, and then the method that serves knows of it
-abbrev pub delivered : Delivery → Kind
+abbrev pub delivered : MessageState → Kind
 delivered Here = Own Message Ready
 delivered Gone = Null
 
@@ -173,12 +173,12 @@ by_stage (Of_server x client (Service_left code)) below = Own Message Ready
 by_stage _ below = below
 
 abbrev pub by_service : Image → Layer → Kind → Kind
-by_service p (Method fr sh) below = cond (serves p fr.method) (delivered sh.delivery) below
+by_service p (Method fr sh) below = cond (serves p fr.method) (delivered sh.message_state) below
 by_service p (Mark gv) below = below
 by_service p (Dying o) below = below
 by_service p (Ending o left) below = below
 by_service p (Unwinding code es) below = below
-by_service p (Dispatching d seats) below = by_stage d below
+by_service p (Dispatching d owned_chain) below = by_stage d below
 
 abbrev pub other_claim : Image → Layer → Other → Kind → Kind
 other_claim p l Root below = by_root p l below

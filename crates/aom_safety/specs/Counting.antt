@@ -5,7 +5,7 @@ use Rattle.aom_semantics.specs.State.{Dispatch, Of_main, Main_left, Of_root, Of_
 use Rattle.aom_image.specs.declared.method.Role.TheVariants.{Error}
 use Rattle.aom_semantics.specs.Requests.{part_of}
 use Rattle.aom_semantics.specs.Moves.{step}
-use Rattle.aom_semantics.specs.World.{boot_state, begins, moves, turns, Heard, Reaches, Environment, Turning, Picks, turning, turn}
+use Rattle.aom_semantics.specs.World.{boot_state, begins, moves, turns, Observed, Reaches, Environment, Turning, Picks, turning, turn}
 use Rattle.aom_transcript.specs.declared.line.Line.{Line}
 
 -- the steps that a move is; a code that arrives and a dispatch that ends are none
@@ -39,7 +39,7 @@ starts _ = false
 abbrev pub taken : {p : Image} {outside : Environment} {from : State} {lines : List Line} {s : State} → Reaches p outside from lines s → ℕ
 taken begins = 0
 taken {p = p} (moves {s = s} c reached busy opened goes) = cond (restarts p s.tasks) 0 (taken reached + steps_of s.tasks)
-taken {outside = outside} (turns {s = s} heard reached between well goes) = cond (starts (turning outside heard s)) 0 (taken reached)
+taken {outside = outside} (turns {s = s} observed reached between well goes) = cond (starts (turning outside observed s)) 0 (taken reached)
 
 -- as a number that stays at its greatest value
 abbrev pub in_range : ℕ → ℕ
@@ -49,10 +49,10 @@ in_range n = min n (2 ^ 64 - 1)
 pub record StepsAreCounted : Type 0 where
   pub boot : (p : Image) → (boot_state p).rest.steps ≡ 0
   pub moves : (p : Image) (c : Choice) (s u : State) → s.rest.steps ≡ in_range s.rest.steps → step p c s ≡ Goes u → u.rest.steps ≡ cond (restarts p s.tasks) 0 (in_range (s.rest.steps + steps_of s.tasks))
-  pub turns : (p : Image) (outside : Environment) (heard : Heard) (s u : State) → turn p outside heard s ≡ Goes u → u.rest.steps ≡ cond (starts (turning outside heard s)) 0 s.rest.steps
+  pub turns : (p : Image) (outside : Environment) (observed : Observed) (s u : State) → turn p outside observed s ≡ Goes u → u.rest.steps ≡ cond (starts (turning outside observed s)) 0 s.rest.steps
   pub runs : (p : Image) (outside : Environment) (lines : List Line) (s : State) (reached : Reaches p outside (boot_state p) lines s) → s.rest.steps ≡ in_range (taken reached)
 
 -- a dispatch of an object counts as it ends, and so far as the count reaches
 pub record DispatchesAreCounted : Type 0 where
   pub moves : (p : Image) (c : Choice) (s u : State) → step p c s ≡ Goes u → u.rest.dispatches ≡ cond (restarts p s.tasks) (raised s.rest.dispatches) s.rest.dispatches
-  pub turns : (p : Image) (outside : Environment) (heard : Heard) (s u : State) → turn p outside heard s ≡ Goes u → u.rest.dispatches ≡ s.rest.dispatches
+  pub turns : (p : Image) (outside : Environment) (observed : Observed) (s u : State) → turn p outside observed s ≡ Goes u → u.rest.dispatches ≡ s.rest.dispatches

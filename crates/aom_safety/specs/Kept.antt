@@ -9,8 +9,8 @@ use Rattle.aom_clients.specs.Table.{server_of}
 use Rattle.aom_semantics.specs.Clients.{client_at, most_of}
 use Rattle.aom_semantics.specs.Requests.{thing_kind}
 use Rattle.aom_semantics.specs.Places.{Asked, Cell, Close_of, Connect_of, Elsewhere, In_service, Message_of, Object, Queued, Service, held, named, service_of, requested}
-use Rattle.aom_semantics.specs.Servers.{has_session, is_from, is_message, is_server, seats_taken}
-use Rattle.aom_semantics.specs.State.{Accept_left, Accepted, Accepts, Dispatched, Of_server, Parts, Run, Service_left, Serves, Stage, State, Task, Trapped, Destroy, Closing, Unwind}
+use Rattle.aom_semantics.specs.Servers.{has_session, is_from, is_message, is_server, sessions_in_use}
+use Rattle.aom_semantics.specs.State.{Accept_left, Accepted, Accepts, Dispatched, Of_server, Disconnects, Run, Service_left, Serves, Stage, State, Task, Trapped, Destroy, Closing, Unwind}
 use Rattle.aom_semantics.specs.Tokens.{TokensApart}
 
 -- what waits in the queue of a server is of a client that is at it
@@ -77,12 +77,12 @@ pub record ClientsFit (p : Image) (clients : List Client) (cs : List Cell) : Typ
   pub sources : HasSources cs
   pub served : ServesSent cs
   -- nothing has more sessions, and connects that wait, than its class takes
-  pub seats : (o : Object) → named cs o.name ≡ Some o → seats_taken (service_of cs o.name) ≤ most_of (thing_kind p o.thing)
+  pub owned_chain : (o : Object) → named cs o.name ≡ Some o → sessions_in_use (service_of cs o.name) ≤ most_of (thing_kind p o.thing)
 
 -- the client whose connect is served is at the server still, asks for it no more, and has a seat left
 abbrev pub ConnectKept : Image → List Client → List Cell → Object → ℕ → Type 0
 ConnectKept p clients cs o c =
-    (is_connecting_at o.name (client_at clients c) ≡ true) × (list_any (is_connect_of c) (service_of cs o.name).queue ≡ false) × (seats_taken (service_of cs o.name) < most_of (thing_kind p o.thing))
+    (is_connecting_at o.name (client_at clients c) ≡ true) × (list_any (is_connect_of c) (service_of cs o.name).queue ≡ false) × (sessions_in_use (service_of cs o.name) < most_of (thing_kind p o.thing))
 
 -- and so is one whose close is served
 abbrev pub StageKept : Image → List Client → List Cell → (server : Object) → (client : ℕ) → Stage → Type 0
@@ -91,7 +91,7 @@ StageKept p clients cs o c Accepted = Unit {0}
 StageKept p clients cs o c (Accept_left code) = ConnectKept p clients cs o c
 StageKept p clients cs o c (Serves x) = Unit {0}
 StageKept p clients cs o c (Service_left code) = Unit {0}
-StageKept p clients cs o c Parts = (is_leaving o.name (client_at clients c) ≡ true) × (list_any (is_close_of c) (service_of cs o.name).queue ≡ false)
+StageKept p clients cs o c Disconnects = (is_leaving o.name (client_at clients c) ≡ true) × (list_any (is_close_of c) (service_of cs o.name).queue ≡ false)
 
 abbrev pub TasksKept : Image → List Client → List Cell → List Task → Type 0
 TasksKept p clients cs [] = Unit {0}
@@ -103,7 +103,7 @@ TasksKept p clients cs (Unwind code ∷ ts) = TasksKept p clients cs ts
 TasksKept p clients cs (Dispatched (Of_server x c stage) ∷ ts) = StageKept p clients cs x.object c stage
 TasksKept p clients cs (Dispatched d ∷ ts) = Unit {0}
 
-pub record IsKept (p : Image) (s : State) : Type 0 where
+pub record StateInvariant (p : Image) (s : State) : Type 0 where
   pub fit : ClientsFit p s.clients s.cells
   pub stage : TasksKept p s.clients s.cells s.tasks
   -- a token that is not void is the only one of its request

@@ -4,7 +4,7 @@ use Rattle.aom_image.specs.Image.{Image}
 use Rattle.aom_image.specs.Views.{action_at, instr_at, method_at, method_class, method_role, is_quiet, leaves, gives_of, arguments_of}
 use Rattle.aom_instructions.specs.Fits.{InstrFits}
 use Rattle.aom_instructions.specs.declared.action.Action.TheVariants.{Call, PushOperation}
-use Rattle.aom_instructions.specs.declared.action.Manner.TheVariants.{Plain, Trapped as Under_trap}
+use Rattle.aom_instructions.specs.declared.action.CallMode.TheVariants.{Plain, Trapped as Under_trap}
 use Rattle.aom_image.specs.WellFormed.{WellFormed}
 use Rattle.aom_instructions.specs.declared.instr.Instr.{Instr}
 use Rattle.aom_instructions.specs.declared.instr.Target.{Target}
@@ -16,24 +16,24 @@ use Rattle.aom_image.specs.declared.method.Thing.{Thing}
 use Rattle.aom_image.specs.declared.method.Thing.TheVariants.{Object as An_object_of}
 use Rattle.aom_roles.specs.Kinds.{is_active_kind}
 use Rattle.aom_roles.specs.Families.{descends}
-use Rattle.aom_classes.specs.Linked.{IsLinked}
-use Rattle.aom_classes.specs.Overriding.{AllStandIn}
-use Rattle.aom_classes.specs.Roles.{role_of, main_of}
+use Rattle.aom_link_conditions.specs.Linked.{IsLinked}
+use Rattle.aom_link_conditions.specs.Overriding.{AllMayOverride}
+use Rattle.aom_link_conditions.specs.Roles.{role_of, main_of}
 use Rattle.aom_roles.specs.Things.{Member, field_thing, holder_of, word_count}
-use Rattle.aom_shape.specs.Arguments.{after_of, before_of}
-use Rattle.aom_rules.specs.Requests.{unissued}
+use Rattle.aom_abstract_state.specs.Arguments.{after_of, before_of}
+use Rattle.aom_typing_rules.specs.Requests.{unissued}
 use Rattle.aom_roles.specs.Shapes.{kind_of}
 use Rattle.aom_roles.specs.States.{active, cancel_open, first_of, idle, last_of, states_of}
-use Rattle.aom_rules.specs.Typing.{Typing, IsTyped}
+use Rattle.aom_typing_rules.specs.Typing.{Typing, IsTyped}
 use Rattle.aom_roles.specs.Classes.{is_session, sessions_at}
 use Rattle.aom_semantics.specs.Places.{Cell, Elsewhere, Root, held, named}
 use Rattle.aom_semantics.specs.State.{Dispatch, Frame, Task, Run, Destroy, Unwind, Dispatched, Item, A_mark, State, Choice, Goes}
 use Rattle.aom_semantics.specs.Moves.{step, IsOpen}
-use Rattle.aom_safety.specs.WellTyped.{IsOfFamily, LeavesNone, IsUndo, WellTyped, Keeps}
-use Rattle.aom_safety.specs.Kept.{ClientsFit, IsKept}
+use Rattle.aom_safety.specs.WellTyped.{IsOfFamily, LeavesNone, IsUndo, WellTyped, PreservesTyping}
+use Rattle.aom_safety.specs.Kept.{ClientsFit, StateInvariant}
 use Rattle.aom_semantics.specs.Owned.{Owned}
 use Rattle.aom_safety.specs.Registers.{AllInRange}
-use Rattle.aom_semantics.specs.World.{AllSettled, Heard, HearsWell, boot_state, first_ready, has_signal, IsBetween, IsBusy, Reaches, Environment, ready_count, signal_count, turn}
+use Rattle.aom_semantics.specs.World.{AllSettled, Observed, ObservesWell, boot_state, first_ready, has_signal, IsBetween, IsBusy, Reaches, Environment, ready_count, signal_count, turn}
 use Rattle.aom_transcript.specs.declared.line.Line.{Line}
 use Rattle.aom_transcript.specs.declared.line.Ending.TheVariants.{Stopped}
 
@@ -81,7 +81,7 @@ pub record IsAcceptor (p : Image) (c m session : ℕ) : Type 0 where
   pub begins : before_of p m ≡ idle
 
 -- a method that serves a message: of a session, with the five words
-pub record IsAttendant (p : Image) (c m : ℕ) : Type 0 where
+pub record IsServiceMethod (p : Image) (c m : ℕ) : Type 0 where
   pub session : is_session p c ≡ true
   pub there : IsSome (method_at p m)
   pub role : method_role p m ≡ Some Service
@@ -131,14 +131,14 @@ pub record IsWired (p : Image) : Type 0 where
   pub acceptor : (c session : ℕ) → sessions_at p c ≡ Some session → (m : ℕ) × (role_of p c Accept ≡ Some m)
   pub accepts : (c session m : ℕ) → sessions_at p c ≡ Some session → role_of p c Accept ≡ Some m → IsAcceptor p c m session
   pub attendant : (c session : ℕ) → sessions_at p c ≡ Some session → (m : ℕ) × (role_of p session Service ≡ Some m)
-  pub attends : (c m : ℕ) → role_of p c Service ≡ Some m → IsAttendant p c m
+  pub attends : (c m : ℕ) → role_of p c Service ≡ Some m → IsServiceMethod p c m
   pub sessions : (c session : ℕ) → sessions_at p c ≡ Some session → sessions_at p session ≡ None
   -- classes and what descends from them
   pub family : IsFamily p
   -- what a class has for its construct is of the class, or of one that it descends from
   pub constructs : (c m : ℕ) → role_of p c Construct ≡ Some m → IsOfFamily p c m
   -- what overrides a method may stand in its place
-  pub overriders : AllStandIn p
+  pub overriders : AllMayOverride p
 
 -- the boot state is well typed
 abbrev pub BootKeeps : Type 0
@@ -146,25 +146,25 @@ BootKeeps = (p : Image) (t : Typing) → IsWired p → IsTyped p t → WellTyped
 
 -- a move from a well-typed state is not stuck, and leads to a well-typed state
 abbrev pub StepKeeps : Type 0
-StepKeeps = (p : Image) (t : Typing) → IsWired p → IsTyped p t → (c : Choice) (s : State) → WellTyped p t s → named s.cells c.name ≡ None → Keeps p t (step p c s)
+StepKeeps = (p : Image) (t : Typing) → IsWired p → IsTyped p t → (c : Choice) (s : State) → WellTyped p t s → named s.cells c.name ≡ None → PreservesTyping p t (step p c s)
 
 -- only registers that a method has own, in each state of a run
 pub record RegistersKeep : Type 0 where
   pub boot : (p : Image) → AllInRange (boot_state p).cells
   pub moves : (p : Image) → IsWired p → (c : Choice) (s u : State) → AllInRange s.cells → step p c s ≡ Goes u → AllInRange u.cells
-  pub turns : (p : Image) (outside : Environment) (heard : Heard) (s u : State) → AllInRange s.cells → turn p outside heard s ≡ Goes u → AllInRange u.cells
+  pub turns : (p : Image) (outside : Environment) (observed : Observed) (s u : State) → AllInRange s.cells → turn p outside observed s ≡ Goes u → AllInRange u.cells
 
 -- a turn from a well-typed state between dispatches in which clients are kept is not stuck, whatever a native completes that it owes, and leads to a well-typed state
 abbrev pub TurnGoesOn : Type 0
 TurnGoesOn =
-    (p : Image) (t : Typing) (outside : Environment) → IsWired p → IsTyped p t → (heard : Heard) (s : State) → WellTyped p t s → IsBetween s → HearsWell p outside heard s → ClientsFit p s.clients s.cells →
-    Keeps p t (turn p outside heard s)
+    (p : Image) (t : Typing) (outside : Environment) → IsWired p → IsTyped p t → (observed : Observed) (s : State) → WellTyped p t s → IsBetween s → ObservesWell p outside observed s → ClientsFit p s.clients s.cells →
+    PreservesTyping p t (turn p outside observed s)
 
 -- clients, and what they have at servers, say the same in each state of a run
 pub record ClientsKeep : Type 0 where
-  pub boot : (p : Image) → IsKept p (boot_state p)
-  pub moves : (p : Image) (t : Typing) → IsWired p → IsTyped p t → (c : Choice) (s u : State) → WellTyped p t s → named s.cells c.name ≡ None → IsKept p s → step p c s ≡ Goes u → IsKept p u
-  pub turns : (p : Image) (t : Typing) (outside : Environment) → IsWired p → IsTyped p t → (heard : Heard) (s u : State) → WellTyped p t s → IsBetween s → HearsWell p outside heard s → IsKept p s → turn p outside heard s ≡ Goes u → IsKept p u
+  pub boot : (p : Image) → StateInvariant p (boot_state p)
+  pub moves : (p : Image) (t : Typing) → IsWired p → IsTyped p t → (c : Choice) (s u : State) → WellTyped p t s → named s.cells c.name ≡ None → StateInvariant p s → step p c s ≡ Goes u → StateInvariant p u
+  pub turns : (p : Image) (t : Typing) (outside : Environment) → IsWired p → IsTyped p t → (observed : Observed) (s u : State) → WellTyped p t s → IsBetween s → ObservesWell p outside observed s → StateInvariant p s → turn p outside observed s ≡ Goes u → StateInvariant p u
 
 -- no request is made that is not waited for; as many signals are there as objects and servers that are ready, and one of these goes first where something signals
 pub record AllRest (cs : List Cell) : Type 0 where
@@ -190,7 +190,7 @@ EndsEmpty = (p : Image) (t : Typing) → IsWired p → (s : State) → WellTyped
 pub record IsSound (p : Image) (outside : Environment) : Type 0 where
   pub goes_on : (lines : List Line) (s : State) → Reaches p outside (boot_state p) lines s → IsBusy s → (c : Choice) → IsOpen p outside.refused c s → (u : State) × (step p c s ≡ Goes u)
   -- each turn goes on: no signal is stray
-  pub turns_on : (lines : List Line) (s : State) → Reaches p outside (boot_state p) lines s → IsBetween s → (heard : Heard) → HearsWell p outside heard s → (u : State) × (turn p outside heard s ≡ Goes u)
+  pub turns_on : (lines : List Line) (s : State) → Reaches p outside (boot_state p) lines s → IsBetween s → (observed : Observed) → ObservesWell p outside observed s → (u : State) × (turn p outside observed s ≡ Goes u)
   -- there are as many signals as objects and servers that are ready, between dispatches and at each dispatch's end
   pub rests : (lines : List Line) (s : State) → Reaches p outside (boot_state p) lines s → s.tasks ≡ [] → AllRest s.cells
   pub ends_at_rest : (lines : List Line) (s : State) (d : Dispatch) → Reaches p outside (boot_state p) lines s → s.tasks ≡ Dispatched d ∷ [] → AllRest s.cells
@@ -209,13 +209,13 @@ LinkedIsWired = (p : Image) → WellFormed p → IsLinked p → IsWired p
 
 -- a move of a method, of a destruction, of an unwinding, and the end of a dispatch
 abbrev pub InstructionKeeps : Type 0
-InstructionKeeps = (p : Image) (t : Typing) → IsWired p → IsTyped p t → (c : Choice) (s : State) (fr : Frame) (tasks : List Task) → WellTyped p t s → s.tasks ≡ Run fr ∷ tasks → named s.cells c.name ≡ None → Keeps p t (step p c s)
+InstructionKeeps = (p : Image) (t : Typing) → IsWired p → IsTyped p t → (c : Choice) (s : State) (fr : Frame) (tasks : List Task) → WellTyped p t s → s.tasks ≡ Run fr ∷ tasks → named s.cells c.name ≡ None → PreservesTyping p t (step p c s)
 
 abbrev pub DestructionKeeps : Type 0
-DestructionKeeps = (p : Image) (t : Typing) (c : Choice) (s : State) (tasks : List Task) → WellTyped p t s → s.tasks ≡ Destroy ∷ tasks → Keeps p t (step p c s)
+DestructionKeeps = (p : Image) (t : Typing) (c : Choice) (s : State) (tasks : List Task) → WellTyped p t s → s.tasks ≡ Destroy ∷ tasks → PreservesTyping p t (step p c s)
 
 abbrev pub UnwindingKeeps : Type 0
-UnwindingKeeps = (p : Image) (t : Typing) → IsWired p → IsTyped p t → (c : Choice) (s : State) (code : ℤ) (tasks : List Task) → WellTyped p t s → s.tasks ≡ Unwind code ∷ tasks → Keeps p t (step p c s)
+UnwindingKeeps = (p : Image) (t : Typing) → IsWired p → IsTyped p t → (c : Choice) (s : State) (code : ℤ) (tasks : List Task) → WellTyped p t s → s.tasks ≡ Unwind code ∷ tasks → PreservesTyping p t (step p c s)
 
 abbrev pub TurnKeeps : Type 0
-TurnKeeps = (p : Image) (t : Typing) → IsWired p → IsTyped p t → (c : Choice) (s : State) (d : Dispatch) (tasks : List Task) → WellTyped p t s → s.tasks ≡ Dispatched d ∷ tasks → Keeps p t (step p c s)
+TurnKeeps = (p : Image) (t : Typing) → IsWired p → IsTyped p t → (c : Choice) (s : State) (d : Dispatch) (tasks : List Task) → WellTyped p t s → s.tasks ≡ Dispatched d ∷ tasks → PreservesTyping p t (step p c s)

@@ -5,7 +5,7 @@ use Rattle.aom_image.specs.Views.{action_at, instr_at, is_quiet, gives_of}
 use Rattle.aom_instructions.specs.Table.{action_of, transfer_of}
 use Rattle.aom_instructions.specs.declared.action.Action.{Action}
 use Rattle.aom_instructions.specs.declared.action.Action.TheVariants.{Call, Push, PushOperation}
-use Rattle.aom_instructions.specs.declared.action.Manner.TheVariants.{Trapped as Under_trap}
+use Rattle.aom_instructions.specs.declared.action.CallMode.TheVariants.{Trapped as Under_trap}
 use Rattle.aom_instructions.specs.declared.instr.Instr.{Instr}
 use Rattle.aom_instructions.specs.declared.instr.Instr.TheVariants.{LeaveIf, NewOrLeave}
 use Rattle.aom_instructions.specs.declared.instr.Target.{Target}
@@ -13,10 +13,10 @@ use Rattle.aom_instructions.specs.declared.transfer.Transfer.{Transfer}
 use Rattle.aom_instructions.specs.declared.transfer.Transfer.TheVariants.{Leave}
 use Rattle.aom_image.specs.declared.method.Gives.{Gives}
 use Rattle.aom_image.specs.declared.method.Gives.TheVariants.{Nothing, Word as A_word, Own as An_own, Maybe as A_maybe, Left}
-use Rattle.aom_rules.specs.Typing.{Typing, IsTyped}
+use Rattle.aom_typing_rules.specs.Typing.{Typing, IsTyped}
 use Rattle.aom_semantics.specs.Places.{Place, Register, Entry, Going, Object, Cell, held, named}
 use Rattle.aom_semantics.specs.State.{Of_server, Accepts, Accept_left, Serves, Service_left, Inside, Frame, Of_main, Main_left, Of_object, Object_left, Task, Run, Trapped, Destroy, Unwind, Dispatched, Item, An_object, An_operation, A_mark, State, Choice, Goes, word, next, Closing}
-use Rattle.aom_classes.specs.Roles.{destructor_of}
+use Rattle.aom_link_conditions.specs.Roles.{destructor_of}
 use Rattle.aom_semantics.specs.Moves.{step, written, announcement}
 use Rattle.aom_safety.specs.WellTyped.{WellTyped}
 use Rattle.aom_semantics.specs.World.{boot_state, Reaches, Environment}
@@ -117,7 +117,7 @@ pub record Begins (p : Image) (code : ℤ) (fr : Frame) (depth : ℕ) (i : Instr
 abbrev pub IsDestroyed : Bool → Option ℕ → Object → List Task → List Task → Type 0
 IsDestroyed true d o under ts = ts ≡ Closing ∷ Destroy ∷ under
 IsDestroyed false None o under ts = ts ≡ Destroy ∷ under
-IsDestroyed false (Some m) o under ts = (fr : Frame) × (ts ≡ Run fr ∷ Destroy ∷ under) × (fr.method ≡ m) × (fr.place ≡ 0) × (fr.home ≡ Inside o (Going (length under)))
+IsDestroyed false (Some m) o under ts = (fr : Frame) × (ts ≡ Run fr ∷ Destroy ∷ under) × (fr.method ≡ m) × (fr.place ≡ 0) × (fr.receiver ≡ Inside o (Going (length under)))
 
 -- what is to be done for the item over so many others is at hand over these tasks: its object's cell is to go, or its method runs on its word
 abbrev pub IsBegun : Image → List Task → Item → ℕ → State → State → Type 0
@@ -144,8 +144,8 @@ HasNoResult (A_maybe t) cs depth c before after = IsNull cs depth after c
 HasNoResult (Left x) cs depth c before after = word after c ≡ word before c
 
 -- the method goes on after its trap, with the code in the register after the result's
-pub record Hears (code : ℤ) (gives : Gives) (c : ℕ) (cs : List Cell) (depth : ℕ) (before after : Frame) : Type 0 where
-  pub told : HasWord cs depth after (suc c) code
+pub record Observes (code : ℤ) (gives : Gives) (c : ℕ) (cs : List Cell) (depth : ℕ) (before after : Frame) : Type 0 where
+  pub reported : HasWord cs depth after (suc c) code
   pub result : HasNoResult gives cs depth c before after
   pub others : (r : ℕ) → r ≢ c → r ≢ suc c → word after r ≡ word before r
   pub goes_on : record after { words = before.words } ≡ next before
@@ -155,7 +155,7 @@ abbrev pub ArrivesAt : Image → ℤ → List Task → State → Type 0
 ArrivesAt p code (Trapped ∷ Run before ∷ ts) u =
     (after : Frame)
     × (u.tasks ≡ Run after ∷ ts)
-    × ((target : Target) (m first c : ℕ) → action_at p before.method before.place ≡ Some (Call Under_trap target m first c) → Hears code (gives_of p m) c u.cells (length ts) before after)
+    × ((target : Target) (m first c : ℕ) → action_at p before.method before.place ≡ Some (Call Under_trap target m first c) → Observes code (gives_of p m) c u.cells (length ts) before after)
 ArrivesAt p code (Trapped ∷ Dispatched Of_main ∷ ts) u = u.tasks ≡ Dispatched (Main_left code) ∷ ts
 ArrivesAt p code (Trapped ∷ Dispatched (Of_object x) ∷ ts) u = u.tasks ≡ Dispatched (Object_left x code) ∷ ts
 ArrivesAt p code (Trapped ∷ Dispatched (Of_server x client Accepts) ∷ ts) u = u.tasks ≡ Dispatched (Of_server x client (Accept_left code)) ∷ ts

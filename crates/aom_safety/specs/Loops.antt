@@ -2,12 +2,12 @@
 use Rattle.std.specs.Prelude.{ℕ, suc, ◌≡◌, ◌<◌, ◌≤◌, List}
 use Rattle.aom_image.specs.Image.{Image}
 use Rattle.aom_image.specs.WellFormed.{WellFormed}
-use Rattle.aom_classes.specs.Bodies.{Body, IsIn, IsLooped}
-use Rattle.aom_classes.specs.Linked.{IsLinked}
+use Rattle.aom_link_conditions.specs.Bodies.{Body, IsIn, IsLooped}
+use Rattle.aom_link_conditions.specs.Linked.{IsLinked}
 use Rattle.aom_semantics.specs.State.{Frame, Task, State, Choice, Goes, counter}
 use Rattle.aom_semantics.specs.Moves.{step}
 use Rattle.aom_safety.specs.Tasks.{TaskLaw, Holds}
-use Rattle.aom_semantics.specs.World.{boot_state, Heard, Environment, turn}
+use Rattle.aom_semantics.specs.World.{boot_state, Observed, Environment, turn}
 
 -- in each body that has that place, a round of its loop is left, and no more than the loop has
 abbrev pub RoundsAt : Image → Frame → ℕ → Type 0
@@ -25,4 +25,4 @@ pub record LoopsKeep : Type 0 where
   pub linked : (p : Image) → WellFormed p → IsLinked p → IsLooped p
   pub boot : (p : Image) → RoundsLeft p (boot_state p).tasks
   pub moves : (p : Image) → IsLooped p → (c : Choice) (s u : State) → RoundsLeft p s.tasks → step p c s ≡ Goes u → RoundsLeft p u.tasks
-  pub turns : (p : Image) → IsLooped p → (outside : Environment) (heard : Heard) (s u : State) → RoundsLeft p s.tasks → turn p outside heard s ≡ Goes u → RoundsLeft p u.tasks
+  pub turns : (p : Image) → IsLooped p → (outside : Environment) (observed : Observed) (s u : State) → RoundsLeft p s.tasks → turn p outside observed s ≡ Goes u → RoundsLeft p u.tasks

@@ -2,14 +2,14 @@
 use Rattle.std.specs.Prelude.{Bool, List, [], false, true, ℤ, ◌∷◌, ◌≡◌}
 use Rattle.aom_image.specs.Image.{Image}
 use Rattle.aom_image.specs.Views.{is_quiet}
-use Rattle.aom_rules.specs.Typing.{Typing, IsTyped}
+use Rattle.aom_typing_rules.specs.Typing.{Typing, IsTyped}
 use Rattle.aom_semantics.specs.State.{Frame, Task, Run, Trapped, Destroy, Unwind, Dispatched, Item, A_mark, State, Choice, Goes, Closing}
 use Rattle.aom_semantics.specs.Moves.{step}
 use Rattle.aom_safety.specs.Tasks.{TaskLaw, Holds}
 use Rattle.aom_safety.specs.WellTyped.{WellTyped}
 use Rattle.aom_semantics.specs.Owned.{Owned}
 use Rattle.aom_safety.specs.Registers.{AllInRange}
-use Rattle.aom_semantics.specs.World.{Heard, Environment, boot_state, turn}
+use Rattle.aom_semantics.specs.World.{Observed, Environment, boot_state, turn}
 use Rattle.aom_safety.specs.Laws.{IsWired}
 
 -- a cell goes, or a leave unwinds
@@ -27,20 +27,20 @@ abbrev pub IsQuietOver : Image → Frame → List Task → Type 0
 IsQuietOver p fr ts = is_clearing ts ≡ true → is_quiet p fr.method ≡ true
 
 -- and no trap stands over it, nor another leave
-abbrev pub calm : Image → TaskLaw
-calm p = record { Runs = IsQuietOver p; Waits = IsQuietOver p; Stands = λ ts. is_clearing ts ≡ false; Unwinds = λ code ts. is_clearing ts ≡ false }
+abbrev pub only_quiet : Image → TaskLaw
+only_quiet p = record { Runs = IsQuietOver p; Waits = IsQuietOver p; Stands = λ ts. is_clearing ts ≡ false; Unwinds = λ code ts. is_clearing ts ≡ false }
 
-abbrev pub IsCalm : Image → List Task → Type 0
-IsCalm p ts = Holds (calm p) ts
+abbrev pub OnlyQuietRun : Image → List Task → Type 0
+OnlyQuietRun p ts = Holds (only_quiet p) ts
 
 -- this holds at the boot, and each move of a well-typed state keeps it
-pub record CalmKeeps : Type 0 where
-  pub boot : (p : Image) → IsCalm p (boot_state p).tasks
-  pub moves : (p : Image) (t : Typing) → IsWired p → IsTyped p t → (c : Choice) (s u : State) → WellTyped p t s → IsCalm p s.tasks → step p c s ≡ Goes u → IsCalm p u.tasks
-  pub turns : (p : Image) → IsWired p → (outside : Environment) (heard : Heard) (s u : State) → IsCalm p s.tasks → turn p outside heard s ≡ Goes u → IsCalm p u.tasks
+pub record QuietPreserved : Type 0 where
+  pub boot : (p : Image) → OnlyQuietRun p (boot_state p).tasks
+  pub moves : (p : Image) (t : Typing) → IsWired p → IsTyped p t → (c : Choice) (s u : State) → WellTyped p t s → OnlyQuietRun p s.tasks → step p c s ≡ Goes u → OnlyQuietRun p u.tasks
+  pub turns : (p : Image) → IsWired p → (outside : Environment) (observed : Observed) (s u : State) → OnlyQuietRun p s.tasks → turn p outside observed s ≡ Goes u → OnlyQuietRun p u.tasks
 
 -- where a leave has nothing more to unwind, each cell has exactly one living owner
 abbrev pub CaughtOwned : Type 0
 CaughtOwned =
-    (p : Image) (t : Typing) → IsWired p → (s : State) → WellTyped p t s → IsCalm p s.tasks → AllInRange s.cells →
+    (p : Image) (t : Typing) → IsWired p → (s : State) → WellTyped p t s → OnlyQuietRun p s.tasks → AllInRange s.cells →
     (code : ℤ) (tasks : List Task) (items : List Item) → s.tasks ≡ Unwind code ∷ tasks → s.items ≡ A_mark ∷ items → Owned p s

@@ -4,19 +4,19 @@ use Rattle.aom_image.specs.Image.{Image}
 use Rattle.aom_image.specs.Views.{gives_of, instr_at}
 use Rattle.aom_instructions.specs.Table.{action_of, transfer_of}
 use Rattle.aom_instructions.specs.declared.action.Action.TheVariants as action
-use Rattle.aom_instructions.specs.declared.action.Manner.TheVariants.{Plain, Trapped as Under_trap}
+use Rattle.aom_instructions.specs.declared.action.CallMode.TheVariants.{Plain, Trapped as Under_trap}
 use Rattle.aom_instructions.specs.declared.instr.Instr.{Instr}
 use Rattle.aom_instructions.specs.declared.instr.Instr.TheVariants.{Pop, PopDelete, PopOperation}
 use Rattle.aom_instructions.specs.declared.transfer.Transfer.TheVariants as transfer
 use Rattle.aom_roles.specs.Tests.{AllTrue}
-use Rattle.aom_classes.specs.Jumps.{jump_of}
-use Rattle.aom_classes.specs.Loops.{loop_in}
+use Rattle.aom_link_conditions.specs.Jumps.{jump_of}
+use Rattle.aom_link_conditions.specs.Loops.{loop_in}
 use Rattle.aom_semantics.specs.Places.{service_of, Entry, Going, Object, held, moved}
 use Rattle.aom_semantics.specs.State.{Closing, Dispatch, Frame, Task, Run, Trapped, Destroy, Unwind, Dispatched, An_object, Item, An_operation, A_mark, State, Choice, Goes, counter, next}
-use Rattle.aom_semantics.specs.Destruction.{vanished, parting, first_session, begun, owns_nothing}
+use Rattle.aom_semantics.specs.Destruction.{reclaimed, parting, first_session, begun, owns_nothing}
 use Rattle.aom_semantics.specs.Words.{here}
 use Rattle.aom_semantics.specs.Calls.{below_top, called, result_register}
-use Rattle.aom_semantics.specs.Cleanup.{code_told, ended_by, has_trap, operation_frame, top_place}
+use Rattle.aom_semantics.specs.Cleanup.{code_reported, ended_by, has_trap, operation_frame, top_place}
 use Rattle.aom_semantics.specs.Moves.{counted, dispatch_ends, makes, needs, step}
 use Rattle.aom_safety.specs.Leaves.{LeavesWith}
 use Rattle.aom_semantics.specs.Effects.{Update, Same, Carried, Made, Written, Requested, Sessioned, Pushed, Pushed_operation, Popped, Popped_operation, Effect, Goes_on, Jumps, Counts, Repeats, Calls, Cancels, Sets_trap, Returns, Leaves, Destroys, Destroys_last, Operates, applied, Replied, Handed}
@@ -76,9 +76,9 @@ pub data Move (p : Image) (c : Choice) (s u : State) : Type 0 where
       (fr : Frame) (ts : List Task) (i : Instr) (e : Effect) → s.tasks ≡ Run fr ∷ ts → instr_at p fr.method fr.place ≡ Some i → AllTrue (needs p c fr ts (counted p s) i) →
       Fits p c fr ts (counted p s) i e → u ≡ applied p fr ts (counted p s) e → Move p c s u
   -- a cell goes
-  Vanishes :
+  Reclaims :
       (ts : List Task) (o : Object) → s.tasks ≡ Destroy ∷ ts → held s.cells (Going (length ts)) ≡ Some o → owns_nothing (without_queue o.name s.cells) o.name ≡ true →
-      u ≡ vanished o ts (counted p s) → Move p c s u
+      u ≡ reclaimed o ts (counted p s) → Move p c s u
   -- a server that goes lets go of a session first, or its destructor begins
   Empties :
       (ts : List Task) (o : Object) → s.tasks ≡ Closing ∷ Destroy ∷ ts → held s.cells (Going (length ts)) ≡ Some o →
@@ -93,7 +93,7 @@ pub data Move (p : Image) (c : Choice) (s u : State) : Type 0 where
   -- its code arrives at a method, or at a dispatch
   Arrives :
       (code : ℤ) (fr : Frame) (ts : List Task) (items : List Item) → s.tasks ≡ Unwind code ∷ Trapped ∷ Run fr ∷ ts → s.items ≡ A_mark ∷ items →
-      u ≡ record (counted p s) { tasks = Run (next (code_told (called p (instr_at p fr.method fr.place)) (result_register (instr_at p fr.method fr.place)) code fr)) ∷ ts; items = items } → Move p c s u
+      u ≡ record (counted p s) { tasks = Run (next (code_reported (called p (instr_at p fr.method fr.place)) (result_register (instr_at p fr.method fr.place)) code fr)) ∷ ts; items = items } → Move p c s u
   Comes_out :
       (code : ℤ) (d : Dispatch) (ts : List Task) (items : List Item) → s.tasks ≡ Unwind code ∷ Trapped ∷ Dispatched d ∷ ts → s.items ≡ A_mark ∷ items →
       u ≡ record (counted p s) { tasks = Dispatched (ended_by code d) ∷ ts; items = items } → Move p c s u

@@ -3,9 +3,9 @@ use Rattle.std.specs.Prelude.{ℕ, suc, ℤ, pos, ◌≡◌, ◌⊎◌, List, []
 use Rattle.aom_image.specs.Image.{Image}
 use Rattle.aom_image.specs.Views.{action_at}
 use Rattle.aom_instructions.specs.declared.action.Action.TheVariants.{Call}
-use Rattle.aom_instructions.specs.declared.action.Manner.TheVariants.{Trapped as Under_trap}
+use Rattle.aom_instructions.specs.declared.action.CallMode.TheVariants.{Trapped as Under_trap}
 use Rattle.aom_instructions.specs.declared.instr.Target.{Target}
-use Rattle.aom_rules.specs.Typing.{Typing, IsTyped}
+use Rattle.aom_typing_rules.specs.Typing.{Typing, IsTyped}
 use Rattle.aom_semantics.specs.Places.{named}
 use Rattle.aom_semantics.specs.State.{Frame, Dispatch, Task, Run, Trapped, Destroy, Unwind, Dispatched, Item, An_object, An_operation, A_mark, State, Choice, Goes, word, next, Closing}
 use Rattle.aom_semantics.specs.Moves.{step}
@@ -49,13 +49,13 @@ GoesOnAfter (Unwind code ∷ ts) tasks = ⊥
 GoesOnAfter (Dispatched d ∷ ts) tasks = (e : Dispatch) × (tasks ≡ Dispatched e ∷ ts)
 
 -- the register of the code has the word 0
-abbrev pub TellsZero : Image → List Task → List Task → Type 0
-TellsZero p (Run before ∷ ts) (Run after ∷ us) = (target : Target) (m first x : ℕ) → action_at p before.method before.place ≡ Some (Call Under_trap target m first x) → word after (suc x) ≡ Some (pos 0)
-TellsZero p _ _ = Unit {0}
+abbrev pub ReportsZero : Image → List Task → List Task → Type 0
+ReportsZero p (Run before ∷ ts) (Run after ∷ us) = (target : Target) (m first x : ℕ) → action_at p before.method before.place ≡ Some (Call Under_trap target m first x) → word after (suc x) ≡ Some (pos 0)
+ReportsZero p _ _ = Unit {0}
 
 -- the method right over the trap has returned, or a leave right over it has arrived
 abbrev pub ComesOff : Image → List Task → State → State → Type 0
-ComesOff p below s u = ((fr : Frame) × (s.tasks ≡ Run fr ∷ Trapped ∷ below) × TellsZero p below u.tasks) ⊎ ((code : ℤ) × (s.tasks ≡ Unwind code ∷ Trapped ∷ below))
+ComesOff p below s u = ((fr : Frame) × (s.tasks ≡ Run fr ∷ Trapped ∷ below) × ReportsZero p below u.tasks) ⊎ ((code : ℤ) × (s.tasks ≡ Unwind code ∷ Trapped ∷ below))
 
 -- with that move the trap is over, and the items are those that lay below its mark
 pub record IsPast (p : Image) (below : List Task) (items : List Item) (s u : State) : Type 0 where

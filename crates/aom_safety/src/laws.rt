@@ -1,7 +1,7 @@
 //! The laws, each as the contract of a function that does nothing.
 ghost use Rattle.aom_safety.specs.Laws.{BootKeeps, InstructionKeeps, DestructionKeeps, UnwindingKeeps, TurnKeeps, TurnGoesOn, SignalsAreReady, StepKeeps, EndsOwned, EndsEmpty, RegistersKeep, ClientsKeep, TypedIsSound, LinkedIsWired};
 ghost use Rattle.aom_safety.specs.Loops.{LoopsKeep};
-ghost use Rattle.aom_safety.specs.Quiet.{CalmKeeps, CaughtOwned};
+ghost use Rattle.aom_safety.specs.Quiet.{QuietPreserved, CaughtOwned};
 ghost use Rattle.aom_safety.specs.Leaves.{LeavesMove, LeavesArrive};
 ghost use Rattle.aom_safety.specs.Steps.{StepsAreMoves};
 ghost use Rattle.aom_safety.specs.Counting.{StepsAreCounted};
@@ -64,8 +64,8 @@ pub fn steps_are_counted()
 {}
 
 /// While a cell goes or a leave unwinds, quiet methods alone run.
-pub fn calm_keeps()
-    ensures { CalmKeeps }
+pub fn quiet_preserved()
+    ensures { QuietPreserved }
 {}
 
 /// Only registers that a method has own.

@@ -7,8 +7,8 @@
 mod laws;
 
 pub use laws::{
-    boot_keeps, calm_keeps, caught_owned, clients_keep, destruction_keeps, ends_empty, ends_owned,
+    boot_keeps, caught_owned, clients_keep, destruction_keeps, ends_empty, ends_owned,
     instruction_keeps, kept_needs_fail, leaves_arrive, leaves_move, linked_is_wired, loops_keep,
-    registers_keep, signals_are_ready, step_keeps, steps_are_counted, steps_are_moves, traps_keep,
-    turn_goes_on, turn_keeps, typed_is_sound, unwinding_keeps,
+    quiet_preserved, registers_keep, signals_are_ready, step_keeps, steps_are_counted,
+    steps_are_moves, traps_keep, turn_goes_on, turn_keeps, typed_is_sound, unwinding_keeps,
 };

@@ -7,7 +7,7 @@ use Rattle.std.proofs.lemmas.Bool.{cases_Bool, cond-true, cond-false}
 use Rattle.std.proofs.lemmas.List.Elements.{All-nil}
 use Rattle.std.proofs.lemmas.Int.{ints}
 use Rattle.std.proofs.lemmas.Option.{same_Some, slice_get_within, get_or_from_slice_get, IfSome_then}
-use Rattle.aom_scheduler.specs.Roster.{before, first_ready, IsPick, IsBehind}
+use Rattle.aom_scheduler.specs.PriorityList.{before, first_ready, IsPick, IsBehind}
 use Rattle.aom_scheduler.specs.declared.entry.ScheduleEntry.{ScheduleEntry}
 use Rattle.aom_scheduler.proofs.Items.{pairs-tail}
 

@@ -11,7 +11,7 @@ use Rattle.std.proofs.lemmas.List.Edits.{length-insert, length-remove}
 use Rattle.std.proofs.Math.Seq.{take-append_seam}
 use Rattle.std.specs.List.Sorted.{IsPartitionPoint}
 use Rattle.aom_scheduler.specs.Order.{placed, without, place_of, IsOrdered}
-use Rattle.aom_scheduler.specs.Roster.{Roster, place, before, marked, marked_entry}
+use Rattle.aom_scheduler.specs.PriorityList.{PriorityList, place, before, marked, marked_entry}
 use Rattle.aom_scheduler.specs.Places.{or_else, numbered, Knows, IsIndexed}
 use Rattle.aom_scheduler.specs.declared.entry.ScheduleEntry.{ScheduleEntry}
 use Rattle.aom_scheduler.proofs.Items.{IsAt, IsAbsent, AreDistinct, Found, there, nowhere, find_it, at-place, place-at, place-absent, absent-place}
@@ -189,9 +189,9 @@ pub written : {X : Type 0} (n : ℕ) (old new : List X) → n ≡ length new →
 written n old new is = ap (λ k. take k (new ++ drop (length new) old)) is ∙ take-append_seam new (drop (length new) old)
 
 -- the same from what the fields and a search among them say
-pub insertion-from : {roster : Roster} {entries shown : List ScheduleEntry} {places : List (Option ℕ)} (at : ℕ) (e : ScheduleEntry) →
-    record { entries = entries; limit = length places } ≡ roster → shown ≡ entries → IsIndexed entries places → e.id < roster.limit → IsNone
-    (place e.id roster) → at ≤ length shown → IsPartitionPoint (λ f. before f e ≡ true) (λ f. before f e ≡ false) shown at → Insertion entries places at e
+pub insertion-from : {priority_list : PriorityList} {entries shown : List ScheduleEntry} {places : List (Option ℕ)} (at : ℕ) (e : ScheduleEntry) →
+    record { entries = entries; limit = length places } ≡ priority_list → shown ≡ entries → IsIndexed entries places → e.id < priority_list.limit → IsNone
+    (place e.id priority_list) → at ≤ length shown → IsPartitionPoint (λ f. before f e ≡ true) (λ f. before f e ≡ false) shown at → Insertion entries places at e
 insertion-from {entries = entries} {places = places} at e view same indexed small new within point = grind (arith, insertion entries places at e indexed)
 
 -- what a fallible insertion leaves where it succeeds
@@ -199,21 +199,21 @@ pub when_ok : {X T E : Type 0} {r : Result T E} {t : T} {now x : X} (y : X) → 
 when_ok {x = x} y ok is = is ∙ ap (λ s. if is_ok s then x else y) ok
 
 -- the places after the entry is put there and those behind it are numbered anew
-pub indexed-by_insertion : (entries shown : List ScheduleEntry) (places lent now : List (Option ℕ)) (at : ℕ) (e : ScheduleEntry) → Insertion entries places at e
-    → shown ≡ insert entries at e → lent ≡ places
-    → length now ≡ length lent → ((id : ℕ) → get_or now id None ≡ numbered id shown lent) → IsIndexed shown now
-indexed-by_insertion entries shown places lent now at e made is same long says =
+pub indexed-by_insertion : (entries shown : List ScheduleEntry) (places borrowed now : List (Option ℕ)) (at : ℕ) (e : ScheduleEntry) → Insertion entries places at e
+    → shown ≡ insert entries at e → borrowed ≡ places
+    → length now ≡ length borrowed → ((id : ℕ) → get_or now id None ≡ numbered id shown borrowed) → IsIndexed shown now
+indexed-by_insertion entries shown places borrowed now at e made is same long says =
     grind (arith, indexed-insert entries shown places now e made.indexed made.small made.new (is ∙ made.is))
 
 -- rosters of the same entries and limit
-pub same_roster : (xs ys : List ScheduleEntry) (m n : ℕ) → xs ≡ ys → m ≡ n →
-    ◌≡◌ {A = Roster} (record { entries = xs; limit = m }) (record { entries = ys; limit = n })
-same_roster xs ys m n p q = cc
+pub same_priority_list : (xs ys : List ScheduleEntry) (m n : ℕ) → xs ≡ ys → m ≡ n →
+    ◌≡◌ {A = PriorityList} (record { entries = xs; limit = m }) (record { entries = ys; limit = n })
+same_priority_list xs ys m n p q = cc
 
 -- an object that has an entry has it where its place says, in the fields too
-pub stands-in : (roster : Roster) (entries : List ScheduleEntry) (limit id at : ℕ) (o : Option ℕ) → record { entries = entries; limit = limit } ≡ roster
-    → o ≡ place id roster → o ≡ Some at → IsAt id_of id entries at
-stands-in roster entries limit id at o view is some = place-at id_of id entries at (ap (λ r. place id r) view ∙ sym is ∙ some)
+pub stands-in : (priority_list : PriorityList) (entries : List ScheduleEntry) (limit id at : ℕ) (o : Option ℕ) → record { entries = entries; limit = limit } ≡ priority_list
+    → o ≡ place id priority_list → o ≡ Some at → IsAt id_of id entries at
+stands-in priority_list entries limit id at o view is some = place-at id_of id entries at (ap (λ r. place id r) view ∙ sym is ∙ some)
 
 -- the entry that is written over, marked
 pub marked-in : (entries : List ScheduleEntry) (id at : ℕ) (ready : Bool) (e : ScheduleEntry) → AreDistinct id_of entries → IsAt id_of id entries at
@@ -252,20 +252,20 @@ removal entries places at gone indexed found =
     d = record { id = 0; priority = pos 0; is_ready = false }
 
 -- the same from what the fields say
-pub removal-from : {roster : Roster} {entries : List ScheduleEntry} {places : List (Option ℕ)} {at : ℕ} {o : Option ℕ} (gone : ℕ)
-    → record { entries = entries; limit = length places } ≡ roster → o ≡ place gone roster → o ≡ Some at → IsIndexed entries places
+pub removal-from : {priority_list : PriorityList} {entries : List ScheduleEntry} {places : List (Option ℕ)} {at : ℕ} {o : Option ℕ} (gone : ℕ)
+    → record { entries = entries; limit = length places } ≡ priority_list → o ≡ place gone priority_list → o ≡ Some at → IsIndexed entries places
     → Removal entries places at gone
-removal-from {roster} {entries} {places} {at} {o} gone view is some indexed =
-    removal entries places at gone indexed (stands-in roster entries (length places) gone at o view is some)
+removal-from {priority_list} {entries} {places} {at} {o} gone view is some indexed =
+    removal entries places at gone indexed (stands-in priority_list entries (length places) gone at o view is some)
 
 -- the entries that are left, as far as the places go that are written
-pub ordered-left : (entries shown : List ScheduleEntry) (places lent : List (Option ℕ)) (at gone : ℕ) → Removal entries places at gone
-    → shown ≡ remove entries at → lent ≡ set places gone None → IsOrdered id_of before (length lent) shown
-ordered-left entries shown places lent at gone made is same = grind (arith, length-set places gone None)
+pub ordered-left : (entries shown : List ScheduleEntry) (places borrowed : List (Option ℕ)) (at gone : ℕ) → Removal entries places at gone
+    → shown ≡ remove entries at → borrowed ≡ set places gone None → IsOrdered id_of before (length borrowed) shown
+ordered-left entries shown places borrowed at gone made is same = grind (arith, length-set places gone None)
 
 -- the places after the entry is gone and those behind it are numbered anew
-pub indexed-by_removal : (entries shown : List ScheduleEntry) (places lent now : List (Option ℕ)) (at gone : ℕ) → Removal entries places at gone
-    → shown ≡ remove entries at → lent ≡ set places gone None
-    → length now ≡ length lent → ((id : ℕ) → get_or now id None ≡ numbered id shown lent) → IsIndexed shown now
-indexed-by_removal entries shown places lent now at gone made is same long says =
+pub indexed-by_removal : (entries shown : List ScheduleEntry) (places borrowed now : List (Option ℕ)) (at gone : ℕ) → Removal entries places at gone
+    → shown ≡ remove entries at → borrowed ≡ set places gone None
+    → length now ≡ length borrowed → ((id : ℕ) → get_or now id None ≡ numbered id shown borrowed) → IsIndexed shown now
+indexed-by_removal entries shown places borrowed now at gone made is same long says =
     grind (arith, indexed-remove entries shown places now gone made.indexed made.small (is ∙ made.is), length-set places gone None)

@@ -9,7 +9,7 @@ use Rattle.std.proofs.lemmas.List.{length-take-le, length-drop}
 use Rattle.std.proofs.lemmas.List.Elements.{All-filter, All-map, filter-append}
 use Rattle.std.specs.List.Sorted.{IsPartitionPoint, IsPartitionedBy}
 use Rattle.aom_scheduler.specs.Order.{placed, without, place_of}
-use Rattle.aom_scheduler.specs.Roster.{Roster, IsSound, before, marked, marked_entry, ready_ids, first_ready}
+use Rattle.aom_scheduler.specs.PriorityList.{PriorityList, IsSound, before, marked, marked_entry, ready_ids, first_ready}
 use Rattle.aom_scheduler.specs.Places.{stands_before}
 use Rattle.aom_scheduler.specs.declared.entry.ScheduleEntry.{ScheduleEntry}
 use Rattle.aom_scheduler.proofs.Items.{IsAt, AreDistinct, own-place, at-place, distinct-head, distinct-tail, few, at_head, in_tail}
@@ -149,26 +149,26 @@ first-is [] = refl
 first-is (x ∷ xs) = grind (arith, first-is xs)
 
 -- a search among the ready for a place ends behind those that stand before it
-pub stands-among : (r : Roster) (ids : List ℕ) (place at : ℕ) →
+pub stands-among : (r : PriorityList) (ids : List ℕ) (place at : ℕ) →
     IsSound r → ids ≡ ready_ids r.entries → place ≤ length r.entries → at ≤ length ids → (IsPartitionedBy (is_in_front r.entries place) ids → IsPartitionPoint
     (λ n. is_in_front r.entries place n ≡ true) (λ n. is_in_front r.entries place n ≡ false) ids at) → at ≡ length (ready_ids (take place r.entries))
 stands-among r ids place at sound is inside within point =
     grind (arith, point-ready r.entries place at sound.distinct inside, searchable-ready r.entries place sound.distinct inside)
 
 -- where the first that is ready does not stand before the place, none that is ready does
-none-front : (r : Roster) (place : ℕ) (ids others : List ℕ) → All (λ n. is_in_front r.entries place n ≡ true) ids → ids ++ others ≡ ready_ids r.entries
+none-front : (r : PriorityList) (place : ℕ) (ids others : List ℕ) → All (λ n. is_in_front r.entries place n ≡ true) ids → ids ++ others ≡ ready_ids r.entries
     → (first : Option ℕ) → first ≡ first_ready r.entries → IfSome first (λ n. is_in_front r.entries place n ≡ false) → length ids ≡ 0
 none-front r place [] others front split first is not = refl
 none-front r place (id ∷ ids) others front split first is not =
     let same : first ≡ Some id = is ∙ first-is r.entries ∙ ap (λ ns. slice_get ns 0) (sym split) in
     absurd (false≢true (sym (subst (λ o. IfSome o (λ n. is_in_front r.entries place n ≡ false)) same not) ∙ front 0 0 (omega arith)))
 
-pub none-among : (r : Roster) (place : ℕ) → IsSound r → place ≤ length r.entries → (first : Option ℕ) → first ≡ first_ready r.entries
+pub none-among : (r : PriorityList) (place : ℕ) → IsSound r → place ≤ length r.entries → (first : Option ℕ) → first ≡ first_ready r.entries
     → IfSome first (λ n. is_in_front r.entries place n ≡ false) → 0 ≡ length (ready_ids (take place r.entries))
 none-among r place sound within first is not = grind (arith, none-front r place, front-all r.entries place sound.distinct within, halves r.entries place)
 
 -- an object that stands there is ready
-pub ready-at : (r : Roster) (id place at : ℕ) (d : ScheduleEntry) → IsSound r → IsAt id_of id r.entries place → at ≡ length (ready_ids (take place r.entries))
+pub ready-at : (r : PriorityList) (id place at : ℕ) (d : ScheduleEntry) → IsSound r → IsAt id_of id r.entries place → at ≡ length (ready_ids (take place r.entries))
     → (get_or r.entries place d).is_ready ≡ true → IsReadyAt r id at
 ready-at r id place at d sound found here ready =
     let fewer = ready-less id r.entries place d sound.distinct found ready in
@@ -179,7 +179,7 @@ ready-at r id place at d sound found here ready =
     }
 
 -- or it waits
-pub waiting-at : (r : Roster) (id place at : ℕ) (d : ScheduleEntry) → IsSound r → IsAt id_of id r.entries place → at ≡ length (ready_ids (take place r.entries))
+pub waiting-at : (r : PriorityList) (id place at : ℕ) (d : ScheduleEntry) → IsSound r → IsAt id_of id r.entries place → at ≡ length (ready_ids (take place r.entries))
     → (get_or r.entries place d).is_ready ≡ false → IsWaitingAt r id at
 waiting-at r id place at d sound found here waits =
     let inside : at ≤ length (ready_ids r.entries) =

@@ -10,7 +10,7 @@ use Rattle.std.proofs.lemmas.List.Elements.{All-cons, All-nil}
 use Rattle.std.specs.List.Sorted.{IsPartitionPoint, IsPartitionedBy}
 use Rattle.aom_scheduler.specs.Order.{placed, without, place_of, IsOrdered}
 use Rattle.aom_scheduler.specs.Pending.{Pending, no_later, due_of}
-use Rattle.aom_scheduler.specs.Dues.{IsTimed}
+use Rattle.aom_scheduler.specs.DueTimes.{IsTimed}
 use Rattle.aom_scheduler.specs.declared.timer.Timer.{Timer}
 use Rattle.aom_scheduler.proofs.Items.{IsAt, IsAbsent, Found, there, nowhere, find_it, place-at, absent-head, absent-tail, at-within, at-number, IsRanking}
 use Rattle.aom_scheduler.proofs.Items.{ordered-placed, ordered-without, without-at, few, pairs-head, pairs-tail, placed-point, at_head, in_tail, none_is}
@@ -90,61 +90,61 @@ due-without_other gone id [] other = refl
 due-without_other gone id (t ∷ ts) other = grind (arith, due-without_other gone id ts other)
 
 -- what holds when a timer is put at its place
-pub record Setting (timers : List Timer) (dues : List (Option ℕ)) (at : ℕ) (t : Timer) : Type 0 where
+pub record Setting (timers : List Timer) (due_times : List (Option ℕ)) (at : ℕ) (t : Timer) : Type 0 where
   pub is : insert timers at t ≡ placed no_later t timers
-  pub room : length timers < length dues
-  pub timed : IsTimed (insert timers at t) (set dues t.id (Some t.due))
+  pub room : length timers < length due_times
+  pub timed : IsTimed (insert timers at t) (set due_times t.id (Some t.due))
 
-pub setting : (timers : List Timer) (dues : List (Option ℕ)) (at : ℕ) (t : Timer) → IsTimed timers dues → t.id < length dues → IsNone (due_of t.id timers)
-    → at ≤ length timers → IsPartitionPoint (λ u. no_later u t ≡ true) (λ u. no_later u t ≡ false) timers at → Setting timers dues at t
-setting timers dues at t timed small unset within point =
+pub setting : (timers : List Timer) (due_times : List (Option ℕ)) (at : ℕ) (t : Timer) → IsTimed timers due_times → t.id < length due_times → IsNone (due_of t.id timers)
+    → at ≤ length timers → IsPartitionPoint (λ u. no_later u t ≡ true) (λ u. no_later u t ≡ false) timers at → Setting timers due_times at t
+setting timers due_times at t timed small unset within point =
     let is : insert timers at t ≡ placed no_later t timers = placed-point no_later t timers at within point in
     let absent = absent-due t.id timers unset in
-    let ordered : IsOrdered id_of no_later (length dues) (insert timers at t) = subst (IsOrdered id_of no_later (length dues)) (sym is)
-    (ordered-placed id_of no_later by_due (length dues) t timers small absent timed.ordered) in
+    let ordered : IsOrdered id_of no_later (length due_times) (insert timers at t) = subst (IsOrdered id_of no_later (length due_times)) (sym is)
+    (ordered-placed id_of no_later by_due (length due_times) t timers small absent timed.ordered) in
     record {
       is = is;
-      room = omega (arith, few id_of (length dues) (insert timers at t) ordered.below ordered.distinct, length-insert timers at t within);
+      room = omega (arith, few id_of (length due_times) (insert timers at t) ordered.below ordered.distinct, length-insert timers at t within);
       timed = record {
-        ordered = subst (λ n. IsOrdered id_of no_later n (insert timers at t)) (sym (length-set dues t.id (Some t.due))) ordered;
+        ordered = subst (λ n. IsOrdered id_of no_later n (insert timers at t)) (sym (length-set due_times t.id (Some t.due))) ordered;
         says = grind (arith, get_or-set_same, due-placed_same, get_or-set_other, due-placed_other);
       };
     }
 
 -- the same from what the fields say
-pub setting-from : {pending : Pending} {timers : List Timer} {dues : List (Option ℕ)} (at : ℕ) (t : Timer)
-    → record { timers = timers; limit = length dues } ≡ pending → IsTimed timers dues → t.id < pending.limit → IsNone (due_of t.id pending.timers)
-    → at ≤ length timers → IsPartitionPoint (λ u. no_later u t ≡ true) (λ u. no_later u t ≡ false) timers at → Setting timers dues at t
-setting-from {timers = timers} {dues = dues} at t view timed small unset = grind (arith, setting timers dues at t timed)
+pub setting-from : {pending : Pending} {timers : List Timer} {due_times : List (Option ℕ)} (at : ℕ) (t : Timer)
+    → record { timers = timers; limit = length due_times } ≡ pending → IsTimed timers due_times → t.id < pending.limit → IsNone (due_of t.id pending.timers)
+    → at ≤ length timers → IsPartitionPoint (λ u. no_later u t ≡ true) (λ u. no_later u t ≡ false) timers at → Setting timers due_times at t
+setting-from {timers = timers} {due_times = due_times} at t view timed small unset = grind (arith, setting timers due_times at t timed)
 
 -- what holds when the timer at a place goes
-pub record Ending (timers : List Timer) (dues : List (Option ℕ)) (at gone : ℕ) : Type 0 where
+pub record Ending (timers : List Timer) (due_times : List (Option ℕ)) (at gone : ℕ) : Type 0 where
   pub is : remove timers at ≡ without id_of gone timers
-  pub small : gone < length dues
+  pub small : gone < length due_times
   pub within : at < length timers
-  pub timed : IsTimed (remove timers at) (set dues gone None)
+  pub timed : IsTimed (remove timers at) (set due_times gone None)
 
-pub ending : (timers : List Timer) (dues : List (Option ℕ)) (at gone : ℕ) → IsTimed timers dues → IsAt id_of gone timers at → Ending timers dues at gone
-ending timers dues at gone timed found =
+pub ending : (timers : List Timer) (due_times : List (Option ℕ)) (at gone : ℕ) → IsTimed timers due_times → IsAt id_of gone timers at → Ending timers due_times at gone
+ending timers due_times at gone timed found =
     let within : at < length timers = at-within id_of gone timers at found in
     let is : remove timers at ≡ without id_of gone timers = without-at id_of gone timers at timed.ordered.distinct found in
-    let small : gone < length dues = subst (λ n. n < length dues) (at-number id_of gone timers at (blank gone) found)
+    let small : gone < length due_times = subst (λ n. n < length due_times) (at-number id_of gone timers at (blank gone) found)
     (timed.ordered.below at (blank gone) within) in
     record {
       is = is;
       small = small;
       within = within;
       timed = record {
-        ordered = subst (λ n. IsOrdered id_of no_later n (remove timers at)) (sym (length-set dues gone None))
-            (subst (IsOrdered id_of no_later (length dues)) (sym is) (ordered-without id_of no_later (length dues) gone timers timed.ordered));
+        ordered = subst (λ n. IsOrdered id_of no_later n (remove timers at)) (sym (length-set due_times gone None))
+            (subst (IsOrdered id_of no_later (length due_times)) (sym is) (ordered-without id_of no_later (length due_times) gone timers timed.ordered));
         says = grind (arith, get_or-set_same, due-without_same, get_or-set_other, due-without_other);
       };
     }
 
 -- the same from what the fields say
-pub ending-from : {pending : Pending} {timers : List Timer} {dues : List (Option ℕ)} {at : ℕ} (gone : ℕ) →
-    record { timers = timers; limit = length dues } ≡ pending → IsTimed timers dues → place_of id_of gone pending.timers ≡ Some at → Ending timers dues at gone
-ending-from {timers = timers} {dues = dues} {at = at} gone view timed stands = grind (arith, ending timers dues at gone timed, place-at)
+pub ending-from : {pending : Pending} {timers : List Timer} {due_times : List (Option ℕ)} {at : ℕ} (gone : ℕ) →
+    record { timers = timers; limit = length due_times } ≡ pending → IsTimed timers due_times → place_of id_of gone pending.timers ≡ Some at → Ending timers due_times at gone
+ending-from {timers = timers} {due_times = due_times} {at = at} gone view timed stands = grind (arith, ending timers due_times at gone timed, place-at)
 
 -- lists of timers and limits that are the same
 pub same_pending : (ts us : List Timer) (m n : ℕ) → ts ≡ us → m ≡ n → ◌≡◌ {A = Pending} (record { timers = ts; limit = m }) (record { timers = us; limit = n })

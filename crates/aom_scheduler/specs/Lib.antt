@@ -1,7 +1,7 @@
 pub mod Order
-pub mod Roster
+pub mod PriorityList
 pub mod Places
 pub mod Ready
 pub mod Pending
-pub mod Dues
+pub mod DueTimes
 pub mod Requests

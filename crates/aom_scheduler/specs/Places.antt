@@ -1,7 +1,7 @@
 -- Where each object stands, in a list by id.
 use Rattle.std.specs.Prelude.{◌≡◌, ℕ, Bool, false, nat_lt, List, Option, Some, None, length, slice_index_or}
 use Rattle.aom_scheduler.specs.Order.{place_of, IsOrdered}
-use Rattle.aom_scheduler.specs.Roster.{before}
+use Rattle.aom_scheduler.specs.PriorityList.{before}
 use Rattle.aom_scheduler.specs.declared.entry.ScheduleEntry.{ScheduleEntry}
 
 -- the one, or else the other

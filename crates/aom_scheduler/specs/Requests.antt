@@ -1,8 +1,8 @@
 -- What the enlisted objects wait for, and how many signals their requests hold.
 use Rattle.std.specs.Prelude.{◌≡◌, ◌≢◌, ◌≤◌, ℕ, ℤ, negsuc, Bool, true, false, cond, not, List, Option, Some, None, IsSome, count_by, slice_index_or}
 use Rattle.std.specs.Ordering.{int_eq}
-use Rattle.aom_scheduler.specs.declared.request.State.{State}
-use Rattle.aom_scheduler.specs.declared.request.State.TheVariants.{Idle, Issued, Active, Cancelling}
+use Rattle.aom_scheduler.specs.declared.request.RequestState.{RequestState}
+use Rattle.aom_scheduler.specs.declared.request.RequestState.TheVariants.{Idle, Issued, Active, Cancelling}
 use Rattle.aom_scheduler.specs.declared.request.Request.{Request}
 use Rattle.aom_scheduler.specs.declared.request.Request.TheVariants.{Object, Server}
 
@@ -20,12 +20,12 @@ abbrev pub IsEnlisted : Table → ℕ → Type 0
 IsEnlisted t id = IsSome (request_at t id)
 
 -- the state of an active object's request
-abbrev pub state_of : Option Request → Option State
+abbrev pub state_of : Option Request → Option RequestState
 state_of (Some (Object state status)) = Some state
 state_of other = None
 
 -- the state of the active object with a number
-abbrev pub state_at : Table → ℕ → Option State
+abbrev pub state_at : Table → ℕ → Option RequestState
 state_at t id = state_of (request_at t id)
 
 -- the status of an active object's request
@@ -79,7 +79,7 @@ abbrev pub signals : Table → ℕ
 signals t = count_by holds_signal t.slots
 
 -- an active object's request in that state
-abbrev pub with_state : State → Option Request → Option Request
+abbrev pub with_state : RequestState → Option Request → Option Request
 with_state to (Some (Object state status)) = Some (Object to status)
 with_state to other = other
 
@@ -101,7 +101,7 @@ pub record Changes (old new : Table) (id : ℕ) (request : Option Request) : Typ
   pub limit : new.limit ≡ old.limit
 
 -- the active object's request is in that state then, and there are as many signals
-pub record Turns (old new : Table) (id : ℕ) (to : State) : Type 0 where
+pub record Turns (old new : Table) (id : ℕ) (to : RequestState) : Type 0 where
   pub changed : Changes old new id (with_state to (request_at old id))
   pub signals : signals new ≡ signals old
 

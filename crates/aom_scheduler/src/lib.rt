@@ -1,7 +1,7 @@
 //! The requests of active objects, and who is next: the objects in the order in which they are picked, and the timers in the order in which they are due.
 //!
 //! `Schedule` lists objects by falling priority, among equals the first enlisted first, and `next_ready` is the first that is ready
-//! (`first_ready` of `specs/Roster.antt`; `IsPick` says what that means). `Timers` lists timers by due time, among equals by issue.
+//! (`first_ready` of `specs/PriorityList.antt`; `IsPick` says what that means). `Timers` lists timers by due time, among equals by issue.
 //! A change is one equation on the list, by `placed`, `without` or `marked`; an object has one entry and one timer at most.
 //! `with_limit` takes all the memory that either ever takes, and no other call can fail. A pick is one look, a mark a binary search
 //! among those that are ready, an insertion or a removal linear at most; the timer due first and the one due last move no other.
@@ -22,7 +22,7 @@ mod timer;
 mod timers;
 
 pub use entry::ScheduleEntry;
-pub use request::{PENDING, State};
+pub use request::{PENDING, RequestState};
 pub use requests::Requests;
 pub use schedule::Schedule;
 pub use timer::Timer;

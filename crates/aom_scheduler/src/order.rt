@@ -2,7 +2,7 @@
 ghost use Rattle.std.specs.Prelude.{◌≡◌, ◌<◌, ◌≤◌, ℕ, [], IfOk, None, IsNone, length, slice_get, slice_index_or, All, AllPairs, ◌≢◌, take, true, false};
 ghost use Rattle.std.specs.List.Sorted.{IsPartitionPoint};
 ghost use Rattle.aom_scheduler.specs.Order.{placed, without};
-ghost use Rattle.aom_scheduler.specs.Roster.{before, place, IsEnlisted, marked, IsSound};
+ghost use Rattle.aom_scheduler.specs.PriorityList.{before, place, IsEnlisted, marked, IsSound};
 ghost use Rattle.aom_scheduler.specs.Places.{numbered, Knows, stands_before};
 ghost use Rattle.aom_scheduler.specs.declared.entry.ScheduleEntry.{ScheduleEntry};
 
@@ -21,9 +21,9 @@ pub struct Order {
 
 impl Model for Order {
     ghost use Rattle.std.specs.Prelude.{◌≤◌, length, vec_capacity};
-    ghost use Rattle.aom_scheduler.specs.Roster.{Roster};
+    ghost use Rattle.aom_scheduler.specs.PriorityList.{PriorityList};
 
-    ghost Value = { Roster };
+    ghost Value = { PriorityList };
 
     ghost view = { λ o. record { entries = o.entries.items; limit = length o.places.items } };
 

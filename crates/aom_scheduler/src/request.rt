@@ -10,7 +10,7 @@ const GENERAL_ERROR: i32 = -2;
 
 /// How far an active object's request has come.
 #[derive(Clone, Copy, PartialEq, Eq)]
-pub enum State {
+pub enum RequestState {
     /// No request is made.
     Idle,
     /// A request is made, and the object does not wait for it yet.
@@ -27,7 +27,7 @@ pub enum State {
 #[derive(Clone, Copy)]
 pub enum Request {
     /// An active object's, of which it has one at a time.
-    Object { state: State, status: i32 },
+    Object { state: RequestState, status: i32 },
     /// A server's, for messages, with a signal while its queue is not empty.
     Server { has_signal: bool },
 }
@@ -51,7 +51,7 @@ impl Request {
     {
         match self {
             Request::Object {
-                state: State::Issued | State::Active | State::Cancelling,
+                state: RequestState::Issued | RequestState::Active | RequestState::Cancelling,
                 status,
             } => *status == PENDING,
             _ => false,
@@ -63,7 +63,7 @@ impl Request {
     {
         match self {
             Request::Object {
-                state: State::Idle,
+                state: RequestState::Idle,
                 ..
             } => false,
             Request::Object { .. } => !self.is_pending(),
@@ -76,7 +76,7 @@ impl Request {
     {
         match self {
             Request::Object {
-                state: State::Active,
+                state: RequestState::Active,
                 status,
             } => *status != PENDING,
             Request::Object { .. } => false,
@@ -84,7 +84,7 @@ impl Request {
         }
     }
 
-    pub fn with_state(self, to: State) -> Request
+    pub fn with_state(self, to: RequestState) -> Request
         ensures { Some result ≡ with_state to (Some self) }
     {
         match self {
@@ -107,7 +107,7 @@ impl Request {
         ensures { Some result ≡ taken (Some self) }
     {
         match self {
-            Request::Object { .. } => self.with_state(State::Idle),
+            Request::Object { .. } => self.with_state(RequestState::Idle),
             Request::Server { .. } => Request::Server { has_signal: false },
         }
     }

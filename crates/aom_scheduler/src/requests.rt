@@ -3,7 +3,7 @@ ghost use Rattle.std.specs.Prelude.{◌≡◌, ◌<◌, ◌≤◌, ◌+◌, Some
 ghost use Rattle.aom_scheduler.specs.Requests.{request_at, IsEnlisted, state_at, status_at, is_server, pending, kept_code, is_pending, holds_signal, is_ready, held, signals, with_state, with_status, taken, Changes, Turns};
 
 use crate::request::{Request, kept_code};
-use crate::{PENDING, State};
+use crate::{PENDING, RequestState};
 use aom_cells::CellId;
 use std::alloc::{AllocError, Global};
 use std::marker::Model;
@@ -89,7 +89,7 @@ impl Requests {
     }
 
     /// The state of an active object's request.
-    pub fn state(&self, id: CellId) -> State
+    pub fn state(&self, id: CellId) -> RequestState
         requires { IsSome (state_at self.now id) }
         ensures { state_at self.now id ≡ Some result }
     {
@@ -108,11 +108,11 @@ impl Requests {
     pub fn add(&mut self, id: CellId)
         requires place { id < self.old.limit }
         requires fresh { request_at self.old id ≡ None }
-        ensures added { Changes self.old self.new id (Some (Request.Object State.Idle (pos 0))) }
+        ensures added { Changes self.old self.new id (Some (Request.Object RequestState.Idle (pos 0))) }
         ensures signals { signals self.new ≡ signals self.old }
     {
         let idle = Request::Object {
-            state: State::Idle,
+            state: RequestState::Idle,
             status: 0,
         };
         self.put(id, Some(idle));
@@ -139,12 +139,12 @@ impl Requests {
 
     /// An idle object makes a request of a provider, whose status is `PENDING`.
     pub fn issue(&mut self, id: CellId)
-        requires { state_at self.old id ≡ Some State.Idle }
-        ensures issued { Changes self.old self.new id (Some (Request.Object State.Issued pending)) }
+        requires { state_at self.old id ≡ Some RequestState.Idle }
+        ensures issued { Changes self.old self.new id (Some (Request.Object RequestState.Issued pending)) }
         ensures signals { signals self.new ≡ signals self.old }
     {
         let issued = Request::Object {
-            state: State::Issued,
+            state: RequestState::Issued,
             status: PENDING,
         };
         self.change(id, Some(issued));
@@ -171,27 +171,27 @@ impl Requests {
 
     /// The object waits for its request, which may be completed already: CActive::SetActive.
     pub fn set_active(&mut self, id: CellId)
-        requires { state_at self.old id ≡ Some State.Issued }
-        ensures { Turns self.old self.new id State.Active }
+        requires { state_at self.old id ≡ Some RequestState.Issued }
+        ensures { Turns self.old self.new id RequestState.Active }
     {
-        self.turn(id, State::Active);
+        self.turn(id, RequestState::Active);
     }
 
     /// A cancel of the request begins: CActive::Cancel, before DoCancel.
     pub fn cancelling(&mut self, id: CellId)
-        requires { state_at self.old id ≡ Some State.Active }
-        ensures { Turns self.old self.new id State.Cancelling }
+        requires { state_at self.old id ≡ Some RequestState.Active }
+        ensures { Turns self.old self.new id RequestState.Cancelling }
     {
-        self.turn(id, State::Cancelling);
+        self.turn(id, RequestState::Cancelling);
     }
 
     /// The request that is being cancelled is completed, and waits for the end of the cancel.
     pub fn cancelled(&mut self, id: CellId)
-        requires state { state_at self.old id ≡ Some State.Cancelling }
+        requires state { state_at self.old id ≡ Some RequestState.Cancelling }
         requires completed { IsFalse (is_pending (request_at self.old id)) }
-        ensures { Turns self.old self.new id State.Aborted }
+        ensures { Turns self.old self.new id RequestState.Aborted }
     {
-        self.turn(id, State::Aborted);
+        self.turn(id, RequestState::Aborted);
     }
 
     /// Takes the signal of a request, as a dispatch begins or a cancel ends: User::WaitForRequest. An active object is idle then.
@@ -205,7 +205,7 @@ impl Requests {
     }
 
     /// Writes how far an active object's request has come.
-    fn turn(&mut self, id: CellId, to: State)
+    fn turn(&mut self, id: CellId, to: RequestState)
         requires { IsEnlisted self.old id }
         ensures changed { Changes self.old self.new id (with_state to (request_at self.old id)) }
         ensures signals { signals self.new + held (request_at self.old id) ≡ signals self.old + held (with_state to (request_at self.old id)) }
@@ -231,7 +231,7 @@ impl Requests {
     }
 
     /// The state and the status of an active object's request.
-    fn object(&self, id: CellId) -> (State, i32)
+    fn object(&self, id: CellId) -> (RequestState, i32)
         requires { IsSome (state_at self.now id) }
         ensures state { state_at self.now id ≡ Some result.0 }
         ensures status { status_at self.now id ≡ Some result.1 }

@@ -3,7 +3,7 @@ ghost use Rattle.std.specs.Prelude.{◌≡◌, ◌<◌, ◌≤◌, [], true, fal
 ghost use Rattle.std.specs.VecDeque.{deque_capacity};
 ghost use Rattle.aom_scheduler.specs.Order.{placed, without};
 ghost use Rattle.aom_scheduler.specs.Ready.{IsReadyAt, IsWaitingAt};
-ghost use Rattle.aom_scheduler.specs.Roster.{before, place, IsEnlisted, waiting, marked, first_ready, ready_ids, IsPick, IsSound};
+ghost use Rattle.aom_scheduler.specs.PriorityList.{before, place, IsEnlisted, waiting, marked, first_ready, ready_ids, IsPick, IsSound};
 
 use crate::ScheduleEntry;
 use crate::order::Order;
@@ -23,9 +23,9 @@ pub struct Schedule {
 impl Model for Schedule {
     ghost use Rattle.std.specs.Prelude.{◌≡◌, ◌≤◌};
     ghost use Rattle.std.specs.VecDeque.{deque_capacity};
-    ghost use Rattle.aom_scheduler.specs.Roster.{Roster, ready_ids};
+    ghost use Rattle.aom_scheduler.specs.PriorityList.{PriorityList, ready_ids};
 
-    ghost Value = { Roster };
+    ghost Value = { PriorityList };
 
     ghost view = { λ s. s.order };
 

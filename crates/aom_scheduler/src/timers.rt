@@ -15,7 +15,7 @@ use std::marker::Model;
 pub struct Timers {
     queue: VecDeque<Timer>,
     /// When each object's timer is due, by its id.
-    dues: Vec<Option<u64>>,
+    due_times: Vec<Option<u64>>,
 }
 
 impl Model for Timers {
@@ -25,11 +25,11 @@ impl Model for Timers {
 
     ghost Value = { Pending };
 
-    ghost view = { λ t. record { timers = t.queue.items; limit = length t.dues.items } };
+    ghost view = { λ t. record { timers = t.queue.items; limit = length t.due_times.items } };
 
-    ghost use Rattle.aom_scheduler.specs.Dues.{IsTimed};
+    ghost use Rattle.aom_scheduler.specs.DueTimes.{IsTimed};
 
-    ghost invariant = { λ t. IsTimed t.queue.items t.dues.items × (length t.dues.items ≤ deque_capacity t.queue) × (length t.dues.items ≤ 4096) };
+    ghost invariant = { λ t. IsTimed t.queue.items t.due_times.items × (length t.due_times.items ≤ deque_capacity t.queue) × (length t.due_times.items ≤ 4096) };
 }
 
 impl Timers {
@@ -39,8 +39,8 @@ impl Timers {
         ensures { IfOk result (λ t. t ≡ record { timers = []; limit = limit }) }
     {
         let queue = VecDeque::with_capacity(alloc, limit)?;
-        let dues = vec![in alloc; None; limit]?;
-        Ok(Timers { queue, dues })
+        let due_times = vec![in alloc; None; limit]?;
+        Ok(Timers { queue, due_times })
     }
 
     /// The number below which the ids of objects are.
@@ -48,7 +48,7 @@ impl Timers {
         ensures value { result ≡ self.now.limit }
         ensures in_range { result ≤ 4096 }
     {
-        self.dues.len()
+        self.due_times.len()
     }
 
     /// Whether the object has a timer.
@@ -90,7 +90,7 @@ impl Timers {
         let timer = Timer { id, due };
         let at = place_for(&self.queue, &timer);
         self.queue.insert(at, timer).unwrap();
-        self.dues[id.number() as usize] = Some(due);
+        self.due_times[id.number() as usize] = Some(due);
     }
 
     /// Ends the object's timer before it is due.
@@ -100,7 +100,7 @@ impl Timers {
     {
         let at = self.place(id);
         self.queue.remove(at);
-        self.dues[id.number() as usize] = None;
+        self.due_times[id.number() as usize] = None;
     }
 
     /// The object of the first timer if it is due by `now`: the timer is over.
@@ -113,7 +113,7 @@ impl Timers {
             return None;
         }
         self.queue.pop_front();
-        self.dues[timer.id.number() as usize] = None;
+        self.due_times[timer.id.number() as usize] = None;
         Some(timer.id)
     }
 
@@ -121,7 +121,7 @@ impl Timers {
     pub fn in_order(&self)
         ensures { AreInOrder self.now }
     {
-        let _ = &self.dues;
+        let _ = &self.due_times;
     }
 
     fn at(&self, place: usize) -> Option<Timer>
@@ -133,7 +133,7 @@ impl Timers {
     fn due_time(&self, id: CellId) -> Option<u64>
         ensures { result ≡ due_of id self.now.timers }
     {
-        self.dues.get(id.number() as usize).copied()?
+        self.due_times.get(id.number() as usize).copied()?
     }
 
     /// Where the object's timer stands.

@@ -10,7 +10,7 @@ use Rattle.aom_text.specs.declared.number.Number.{Number}
 use Rattle.aom_script.specs.Script.{Script, client_says, command_numbers, connect_numbers, connect_says, counted, denoted, denoted_by}
 use Rattle.aom_script.specs.Script.{event_says, fault_in, fault_of, faults_after, in_line, in_place, is_back, is_refusal, kill_numbers}
 use Rattle.aom_script.specs.Script.{kill_says, last_time, leaving_says, line_says, message_says, reading_of, refusal_says, refused_in}
-use Rattle.aom_script.specs.Script.{said_by, send_says, tell_numbers, timed_in, timed_says, unless, words_say}
+use Rattle.aom_script.specs.Script.{said_by, send_says, report_numbers, timed_in, timed_says, unless, words_say}
 use Rattle.aom_script.specs.declared.fault.ScriptFault.{ScriptFault}
 use Rattle.aom_script.specs.declared.fault.ScriptFaultKind.{ScriptFaultKind}
 use Rattle.aom_script.specs.declared.fault.ScriptFaultKind.TheVariants.{NotAscii, BadLine, BadNumber, TimeBack, LimitPassed, OutOfMemory}
@@ -54,11 +54,11 @@ refusals : (request : Option Number) → Fails_so (refusal_says request)
 refusals None = tt
 refusals (Some request) = tt
 
-tells : (time native word : Option Number) → Fails_so (tell_numbers time native word)
-tells (Some time) (Some native) (Some word) = tt
-tells (Some time) (Some native) None = tt
-tells (Some time) None word = tt
-tells None native word = tt
+reports : (time native word : Option Number) → Fails_so (report_numbers time native word)
+reports (Some time) (Some native) (Some word) = tt
+reports (Some time) (Some native) None = tt
+reports (Some time) None word = tt
+reports None native word = tt
 
 kills : (time native : Option Number) → Fails_so (kill_numbers time native)
 kills (Some time) (Some native) = tt
@@ -69,7 +69,7 @@ events : (ws : List (List ℕ)) → Fails_so (event_says ws)
 events [] = tt
 events (time ∷ []) = tt
 events (time ∷ native ∷ []) = tt
-events (time ∷ native ∷ word ∷ []) = tells (number_of time) (number_of native) (number_of word)
+events (time ∷ native ∷ word ∷ []) = reports (number_of time) (number_of native) (number_of word)
 events (time ∷ native ∷ word ∷ other ∷ ws) = tt
 
 ends : (ws : List (List ℕ)) → Fails_so (kill_says ws)

@@ -7,7 +7,7 @@ use Rattle.aom_script.specs.declared.fault.ScriptFaultKind.{ScriptFaultKind}
 use Rattle.aom_script.specs.declared.line.ScriptLine.{ScriptLine}
 use Rattle.aom_script.specs.declared.reading.Reading.{Reading}
 use Rattle.aom_script.specs.Script.{Script, reading_of, said_by, said_in, is_back, counted, in_place, line_says, last_time, fault_in, fault_of, refused_by}
-use Rattle.aom_script.specs.Script.{timed_by, refused_in, timed_in, in_line, faults_after, unless, denoted_by, Keeps, Adds, LinesWantMemory}
+use Rattle.aom_script.specs.Script.{timed_by, refused_in, timed_in, in_line, faults_after, unless, denoted_by, AddsLine, Adds, LinesWantMemory}
 
 -- ---- one line
 
@@ -52,9 +52,9 @@ pub starts : (lines : List (List ℕ)) (script : Script) → script.refused ≡ 
 starts lines script none nothing = record { before = []; parts = refl; counted = refl; faultless = refl; refused = none; timed = nothing }
 
 -- what the line at hand says, by the lines before it
-at_hand : (lines rest : List (List ℕ)) (line : List ℕ) (count : ℕ) (script : Script) (s : SoFar lines rest count script) →
+has_task : (lines rest : List (List ℕ)) (line : List ℕ) (count : ℕ) (script : Script) (s : SoFar lines rest count script) →
     line_says (length s.before + 1) (last_time (timed_in s.before)) line ≡ line_says (count + 1) (last_time script.timed) line
-at_hand lines rest line count script s = ap (λ k. line_says (k + 1) (last_time (timed_in s.before)) line) s.counted
+has_task lines rest line count script s = ap (λ k. line_says (k + 1) (last_time (timed_in s.before)) line) s.counted
     ∙ ap (λ es. line_says (count + 1) (last_time es) line) (sym s.timed)
 
 -- the faults of the lines before and of the line at hand
@@ -63,11 +63,11 @@ one_more : (lines rest : List (List ℕ)) (line : List ℕ) (count : ℕ) (scrip
     faults_after [] (s.before ++ line ∷ later) ≡ in_line (count + 1) fault ++ faults_after (s.before ++ line ∷ []) later
 one_more lines rest line count script s later fault is = faults_append [] s.before (line ∷ later) ∙ ap (λ fs. fs ++ faults_after s.before (line ∷ later))
     s.faultless ∙ ap (λ f. in_line (length s.before + 1) f ++ faults_after (s.before ++ line ∷ []) later)
-    (ap fault_in (at_hand lines rest line count script s) ∙ is) ∙ ap (λ k. in_line (k + 1) fault ++ faults_after (s.before ++ line ∷ []) later) s.counted
+    (ap fault_in (has_task lines rest line count script s) ∙ is) ∙ ap (λ k. in_line (k + 1) fault ++ faults_after (s.before ++ line ∷ []) later) s.counted
 
 -- there is one line more
 goes : (lines later : List (List ℕ)) (line : List ℕ) (count : ℕ) (script new : Script) (said : ScriptLine) → SoFar lines (line ∷ later) count script →
-    line_says (count + 1) (last_time script.timed) line ≡ Ok said → Keeps said script new (Ok tt) → SoFar lines later (count + 1) new
+    line_says (count + 1) (last_time script.timed) line ≡ Ok said → AddsLine said script new (Ok tt) → SoFar lines later (count + 1) new
 goes lines later line count script new said s says kept =
     let is : Some said ≡ said_in (reading_of line) = sym (in_said (count + 1) (last_time script.timed) line said says) in
     record {

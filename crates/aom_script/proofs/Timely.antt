@@ -11,7 +11,7 @@ use Rattle.aom_text.specs.declared.number.Number.{Number}
 use Rattle.aom_transcript.specs.declared.event.ClientCommand.{ClientCommand}
 use Rattle.aom_transcript.specs.declared.event.ClientCommand.TheVariants.{Connect, Close, Die}
 use Rattle.aom_transcript.specs.declared.event.Event.{Event}
-use Rattle.aom_transcript.specs.declared.event.Event.TheVariants.{Tell, Kill, Client}
+use Rattle.aom_transcript.specs.declared.event.Event.TheVariants.{Report, Kill, Client}
 use Rattle.aom_transcript.specs.declared.event.TimedEvent.{TimedEvent}
 use Rattle.aom_script.specs.declared.fault.ScriptFault.{ScriptFault}
 use Rattle.aom_script.specs.declared.fault.ScriptFaultKind.{ScriptFaultKind}
@@ -20,7 +20,7 @@ use Rattle.aom_script.specs.declared.line.ScriptLine.TheVariants.{Empty, Refuse,
 use Rattle.aom_script.specs.declared.reading.CommandNumbers.{CommandNumbers}
 use Rattle.aom_script.specs.declared.reading.CommandNumbers.TheVariants.{ToConnect, ToSend, ToClose, ToDie}
 use Rattle.aom_script.specs.declared.reading.EventNumbers.{EventNumbers}
-use Rattle.aom_script.specs.declared.reading.EventNumbers.TheVariants.{ToTell, ToKill, OfClient}
+use Rattle.aom_script.specs.declared.reading.EventNumbers.TheVariants.{ToReport, ToKill, OfClient}
 use Rattle.aom_script.specs.declared.reading.Reading.{Reading}
 use Rattle.aom_script.specs.declared.reading.Reading.TheVariants.{Blank, Refusal, At}
 use Rattle.aom_script.specs.Script.{Script, reading_of, said_by, said_in, event_within, is_back, both, at_time, command_within}
@@ -58,7 +58,7 @@ slots_fit ToClose command is = let same : Close ≡ command = cc in subst SlotsF
 slots_fit ToDie command is = let same : Die ≡ command = cc in subst SlotsFit same tt
 
 numbers_fit : (event : EventNumbers) (e : Event) → event_within event ≡ Some e → NumbersFit e
-numbers_fit (ToTell native word) e is = made NumbersFit Tell (number_within 0 15 native) (number_signed word) e (λ n w within said. below 0 15 native n within) is
+numbers_fit (ToReport native word) e is = made NumbersFit Report (number_within 0 15 native) (number_signed word) e (λ n w within said. below 0 15 native n within) is
 numbers_fit (ToKill native) e is = mapped NumbersFit Kill (number_within 0 15 native) e (λ n within. below 0 15 native n within) is
 numbers_fit (OfClient client command) e is =
     made NumbersFit Client (number_within 0 63 client) (command_within command) e (λ c x within said. (below 0 63 client c within, slots_fit command x said)) is

@@ -9,7 +9,7 @@ use Rattle.aom_text.specs.declared.number.Number.{Number}
 use Rattle.aom_transcript.specs.declared.event.ClientCommand.{ClientCommand}
 use Rattle.aom_transcript.specs.declared.event.ClientCommand.TheVariants.{Connect, Send, Close, Die}
 use Rattle.aom_transcript.specs.declared.event.Event.{Event}
-use Rattle.aom_transcript.specs.declared.event.Event.TheVariants.{Tell, Kill, Client}
+use Rattle.aom_transcript.specs.declared.event.Event.TheVariants.{Report, Kill, Client}
 use Rattle.aom_transcript.specs.declared.event.TimedEvent.{TimedEvent}
 use Rattle.aom_script.specs.declared.fault.ScriptFault.{ScriptFault}
 use Rattle.aom_script.specs.declared.fault.ScriptFaultKind.{ScriptFaultKind}
@@ -19,7 +19,7 @@ use Rattle.aom_script.specs.declared.line.ScriptLine.TheVariants.{Empty, Refuse,
 use Rattle.aom_script.specs.declared.reading.CommandNumbers.{CommandNumbers}
 use Rattle.aom_script.specs.declared.reading.CommandNumbers.TheVariants.{ToConnect, ToSend, ToClose, ToDie}
 use Rattle.aom_script.specs.declared.reading.EventNumbers.{EventNumbers}
-use Rattle.aom_script.specs.declared.reading.EventNumbers.TheVariants.{ToTell, ToKill, OfClient}
+use Rattle.aom_script.specs.declared.reading.EventNumbers.TheVariants.{ToReport, ToKill, OfClient}
 use Rattle.aom_script.specs.declared.reading.Reading.{Reading}
 use Rattle.aom_script.specs.declared.reading.Reading.TheVariants.{Blank, Refusal, At}
 
@@ -37,9 +37,9 @@ abbrev pub refusal_says : Option Number → Result Reading ScriptFaultKind
 refusal_says (Some request) = Ok (Refusal request)
 refusal_says None = Err BadNumber
 
-abbrev pub tell_numbers : Option Number → Option Number → Option Number → Result Reading ScriptFaultKind
-tell_numbers (Some time) (Some native) (Some word) = Ok (At time (ToTell native word))
-tell_numbers _ _ _ = Err BadNumber
+abbrev pub report_numbers : Option Number → Option Number → Option Number → Result Reading ScriptFaultKind
+report_numbers (Some time) (Some native) (Some word) = Ok (At time (ToReport native word))
+report_numbers _ _ _ = Err BadNumber
 
 abbrev pub kill_numbers : Option Number → Option Number → Result Reading ScriptFaultKind
 kill_numbers (Some time) (Some native) = Ok (At time (ToKill native))
@@ -59,7 +59,7 @@ command_numbers _ _ _ = Err BadNumber
 
 -- the words of each kind of line, without the one that names the kind
 abbrev pub event_says : List (List ℕ) → Result Reading ScriptFaultKind
-event_says (time ∷ native ∷ word ∷ []) = tell_numbers (number_of time) (number_of native) (number_of word)
+event_says (time ∷ native ∷ word ∷ []) = report_numbers (number_of time) (number_of native) (number_of word)
 event_says _ = Err BadLine
 
 abbrev pub kill_says : List (List ℕ) → Result Reading ScriptFaultKind
@@ -135,7 +135,7 @@ command_within ToDie = Some Die
 
 -- a native's number is below 16 and a client's below 64, a word has 32 bits with its sign
 abbrev pub event_within : EventNumbers → Option Event
-event_within (ToTell native word) = both Tell (number_within 0 15 native) (number_signed word)
+event_within (ToReport native word) = both Report (number_within 0 15 native) (number_signed word)
 event_within (ToKill native) = option_map Kill (number_within 0 15 native)
 event_within (OfClient client command) = both Client (number_within 0 63 client) (command_within command)
 
@@ -243,7 +243,7 @@ SlotsFit _ = Unit {0}
 
 -- there are 16 natives, 64 clients, and as many slots at most
 abbrev pub NumbersFit : Event → Type 0
-NumbersFit (Tell native word) = native < 16
+NumbersFit (Report native word) = native < 16
 NumbersFit (Kill native) = native < 16
 NumbersFit (Client client command) = (client < 64) × SlotsFit command
 
@@ -278,14 +278,14 @@ pub record LinesWantMemory (lines : List (List ℕ)) (fault : ScriptFault) : Typ
   pub kept : is_kept said ≡ true
 
 -- what comes of keeping what a line says: it is there, or memory was wanting
-abbrev pub Keeps : ScriptLine → Script → Script → Result (Unit {0}) ScriptFaultKind → Type 0
-Keeps said old new (Ok done) = (new.refused ≡ old.refused ++ refused_by (Some said)) × (new.timed ≡ old.timed ++ timed_by (Some said))
-Keeps said old new (Err kind) = (kind ≡ OutOfMemory) × (is_kept said ≡ true)
+abbrev pub AddsLine : ScriptLine → Script → Script → Result (Unit {0}) ScriptFaultKind → Type 0
+AddsLine said old new (Ok done) = (new.refused ≡ old.refused ++ refused_by (Some said)) × (new.timed ≡ old.timed ++ timed_by (Some said))
+AddsLine said old new (Err kind) = (kind ≡ OutOfMemory) × (is_kept said ≡ true)
 
 -- what comes of adding a line to a script: what it says is there, or its first fault is told, or memory was wanting
 abbrev pub Adds : ℕ → List ℕ → Script → Script → Result (Unit {0}) ScriptFaultKind → Type 0
 Adds number line old new result =
-    ((said : ScriptLine) × (line_says number (last_time old.timed) line ≡ Ok said) × Keeps said old new result)
+    ((said : ScriptLine) × (line_says number (last_time old.timed) line ≡ Ok said) × AddsLine said old new result)
     ⊎ ((kind : ScriptFaultKind) × (result ≡ Err kind) × (line_says number (last_time old.timed) line ≡ Err kind))
 
 -- and the text is not too long, since else nothing has to grow

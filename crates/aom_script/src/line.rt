@@ -11,7 +11,7 @@ use aom_text::Number;
 use aom_transcript::{ClientCommand, Event, TimedEvent};
 
 /// The most lines of a script's text.
-const MOST_LINES: u32 = 65536;
+const MAX_LINES: u32 = 65536;
 
 /// The latest time, in microseconds.
 const LATEST: u64 = 1_000_000_000_000_000;
@@ -41,7 +41,7 @@ pub fn read_line(
         return Err(ScriptFaultKind::TimeBack);
     }
     match said_by(reading) {
-        Some(said) if number <= MOST_LINES => Ok(said),
+        Some(said) if number <= MAX_LINES => Ok(said),
         _ => Err(ScriptFaultKind::LimitPassed),
     }
 }
@@ -64,7 +64,7 @@ fn event_within(numbers: EventNumbers) -> Option<Event>
     ensures { result ≡ event_within numbers }
 {
     match numbers {
-        EventNumbers::ToTell(native, word) => Some(Event::Tell(
+        EventNumbers::ToReport(native, word) => Some(Event::Report(
             native_within(native)?,
             word.signed()?,
         )),

@@ -3,7 +3,7 @@ ghost use Rattle.std.specs.Prelude.{◌≡◌, ◌∷◌};
 ghost use Rattle.std.specs.List.{list_all};
 ghost use Rattle.aom_text.specs.Numbers.{number_of};
 ghost use Rattle.aom_text.specs.Words.{is_plain};
-ghost use Rattle.aom_script.specs.Script.{event_says, is_back, is_refusal, kill_numbers, kill_says, reading_of, refusal_says, tell_numbers, timed_says, words_say};
+ghost use Rattle.aom_script.specs.Script.{event_says, is_back, is_refusal, kill_numbers, kill_says, reading_of, refusal_says, report_numbers, timed_says, words_say};
 
 use crate::ScriptFaultKind;
 use crate::clients::read_client;
@@ -24,7 +24,7 @@ pub enum CommandNumbers {
 #[derive(Clone, Copy)]
 pub enum EventNumbers {
     /// A native, and the word that it is told.
-    ToTell(Number, Number),
+    ToReport(Number, Number),
     /// A native.
     ToKill(Number),
     /// A client, and what it does.
@@ -115,18 +115,18 @@ fn read_event(time: &[u8], mut words: WordCursor) -> Result<Reading, ScriptFault
     ensures { result ≡ event_says (time.now ∷ words.entry) }
 {
     match (words.next(), words.next()) {
-        (Some(native), Some(word)) if words.is_empty() => read_tell(time, native, word),
+        (Some(native), Some(word)) if words.is_empty() => read_report(time, native, word),
         _ => Err(ScriptFaultKind::BadLine),
     }
 }
 
-fn read_tell(time: &[u8], native: &[u8], word: &[u8]) -> Result<Reading, ScriptFaultKind>
-    ensures { result ≡ tell_numbers (number_of time.now) (number_of native.now) (number_of word.now) }
+fn read_report(time: &[u8], native: &[u8], word: &[u8]) -> Result<Reading, ScriptFaultKind>
+    ensures { result ≡ report_numbers (number_of time.now) (number_of native.now) (number_of word.now) }
 {
     match (Number::of(time), Number::of(native), Number::of(word)) {
         (Some(time), Some(native), Some(word)) => Ok(Reading::At(
             time,
-            EventNumbers::ToTell(native, word),
+            EventNumbers::ToReport(native, word),
         )),
         _ => Err(ScriptFaultKind::BadNumber),
     }

@@ -3,8 +3,8 @@ ghost use Rattle.std.specs.Prelude.{◌≡◌, ◌≤◌, ◌⊎◌, [], length,
 ghost use Rattle.std.specs.List.{list_all};
 ghost use Rattle.aom_text.specs.Text.{lines_of};
 ghost use Rattle.aom_text.specs.Words.{is_plain};
-ghost use Rattle.aom_script.specs.Script.{denoted, denoted_by, last_time, Adds, InRange, IsTimely, Keeps, LinesWantMemory, RefusesOrWants};
-ghost use Rattle.aom_script.specs.Further.{hearing_too, place_after, refusing_too};
+ghost use Rattle.aom_script.specs.Script.{denoted, denoted_by, last_time, Adds, InRange, IsTimely, AddsLine, LinesWantMemory, RefusesOrWants};
+ghost use Rattle.aom_script.specs.Further.{with_event, place_after, with_refusal};
 
 use crate::line::{ScriptLine, read_line};
 use crate::{ScriptFault, ScriptFaultKind};
@@ -14,7 +14,7 @@ use std::alloc::{AllocError, Global};
 use std::marker::Model;
 
 /// The most bytes of a script's text.
-const MOST_BYTES: usize = 1 << 20;
+const MAX_BYTES: usize = 1 << 20;
 
 /// What a script says.
 #[derive(Drop)]
@@ -47,8 +47,8 @@ impl Script {
     }
 
     /// The same script, by which the request of that number is refused too.
-    pub fn refusing_too(&self, alloc: Global, number: u32) -> Result<Script, AllocError>
-        ensures { IfOk result (λ script. script ≡ refusing_too number self.now) }
+    pub fn with_refusal(&self, alloc: Global, number: u32) -> Result<Script, AllocError>
+        ensures { IfOk result (λ script. script ≡ with_refusal number self.now) }
     {
         let mut refused = Vec::from_slice(alloc, self.refused())?;
         refused.push(number)?;
@@ -57,8 +57,8 @@ impl Script {
     }
 
     /// The same script with one event more, which comes after all that come by its time.
-    pub fn hearing_too(&self, alloc: Global, event: TimedEvent) -> Result<Script, AllocError>
-        ensures script { IfOk result (λ script. script ≡ hearing_too event self.now) }
+    pub fn with_event(&self, alloc: Global, event: TimedEvent) -> Result<Script, AllocError>
+        ensures script { IfOk result (λ script. script ≡ with_event event self.now) }
         ensures timely { InRange event → IsTimely self.now.timed → IfOk result (λ script. IsTimely script.timed) }
     {
         let refused = Vec::from_slice(alloc, self.refused())?;
@@ -101,7 +101,7 @@ impl Script {
 
     /// Adds what a line says.
     fn keep(&mut self, said: ScriptLine) -> Result<(), ScriptFaultKind>
-        ensures { Keeps said self.old self.new result }
+        ensures { AddsLine said self.old self.new result }
     {
         match said {
             ScriptLine::Empty => {}
@@ -127,7 +127,7 @@ pub fn read_script(alloc: Global, text: &[u8]) -> Result<Script, ScriptFault>
     ensures timely { IfOk result (λ script. IsTimely script.timed) }
     ensures err { IfErr result (λ fault. RefusesOrWants text.now fault) }
 {
-    if text.len() > MOST_BYTES {
+    if text.len() > MAX_BYTES {
         return Err(ScriptFault {
             line: 1,
             kind: ScriptFaultKind::LimitPassed,

@@ -3,12 +3,12 @@ use Rattle.std.proofs.lemmas.Bool.Decides.{nat_tests}
 use Rattle.std.proofs.Common.{arith, Bool, List, None, Option, Some, [], ap, cond, false, refl, subst, sym, true, ℕ, ℤ, ◌==◌, ◌∙◌, ◌∷◌, ◌≡◌}
 use Rattle.std.proofs.lemmas.Bool.{eq-eqb, eqb-true, ne_eqb, true≢false}
 use Rattle.std.specs.Prelude.{pos}
-use Rattle.aom_roles.specs.Tables.{put_at}
+use Rattle.aom_roles.specs.Tables.{set_extending}
 use Rattle.aom_image.specs.Image.{Image}
-use Rattle.aom_semantics.specs.Natives.{all_bereaved, bereaved}
-use Rattle.aom_semantics.specs.Places.{Cell, Object, Place, Request, Service, Tidy, count_cells, held, in_session, moved, named}
+use Rattle.aom_semantics.specs.Natives.{all_detached, detached}
+use Rattle.aom_semantics.specs.Places.{Cell, Object, Place, Request, Service, NoDuplicates, count_cells, held, in_session, moved, named}
 use Rattle.aom_semantics.specs.Places.{requested, same_place, service_of, set_request, set_service, set_session, set_word_field}
-use Rattle.aom_semantics.specs.Servers.{all_unslotted, unslotted}
+use Rattle.aom_semantics.specs.Servers.{all_slot_released, slot_released}
 
 -- each cell is changed by itself, and stays that of its object
 pub record Alters (change : List Cell → List Cell) : Type 0 where
@@ -34,16 +34,16 @@ abbrev pub opening : (n : ℕ) (b : Bool) → Alters (set_session n b)
 opening n b = record { each = λ c. record c { session = cond (c.object.name == n) b c.session }; none = refl; some = λ c cs. refl; object = λ c. refl }
 
 abbrev pub storing : (n w : ℕ) (v : ℤ) → Alters (set_word_field n w v)
-storing n w v = record { each = λ c. record c { words = cond (c.object.name == n) (put_at (pos 0) c.words w v) c.words }; none = refl; some = λ c cs. refl; object = λ c. refl }
+storing n w v = record { each = λ c. record c { words = cond (c.object.name == n) (set_extending (pos 0) c.words w v) c.words }; none = refl; some = λ c cs. refl; object = λ c. refl }
 
 abbrev pub serving : (n : ℕ) (v : Service) → Alters (set_service n v)
 serving n v = record { each = λ c. record c { service = cond (c.object.name == n) v c.service }; none = refl; some = λ c cs. refl; object = λ c. refl }
 
-abbrev pub unslotting : (client : ℕ) → Alters (all_unslotted client)
-unslotting client = record { each = λ c. record c { service = record c.service { sender = unslotted client c.service.sender } }; none = refl; some = λ c cs. refl; object = λ c. refl }
+abbrev pub slot_release : (client : ℕ) → Alters (all_slot_released client)
+slot_release client = record { each = λ c. record c { service = record c.service { sender = slot_released client c.service.sender } }; none = refl; some = λ c cs. refl; object = λ c. refl }
 
-abbrev pub bereaving : (p : Image) (native : ℕ) → Alters (all_bereaved p native)
-bereaving p native = record { each = bereaved p native; none = refl; some = λ c cs. refl; object = λ c. refl }
+abbrev pub detaching : (p : Image) (native : ℕ) → Alters (all_detached p native)
+detaching p native = record { each = detached p native; none = refl; some = λ c cs. refl; object = λ c. refl }
 
 abbrev pub names : Reads named
 names = record { of = λ c. Some c.object; first = λ c cs n. refl }
@@ -107,9 +107,9 @@ module _ {change : List Cell → List Cell} (a : Alters change) where
     held_kept [] q = ap (λ l. held l q) a.none
     held_kept (c ∷ cs) q = grind (arith, nat_tests, held_kept cs q)
 
-    pub tidy_kept : (cs : List Cell) → Tidy cs → Tidy (change cs)
-    tidy_kept [] t = subst (λ l. Tidy l) (sym a.none) tt
-    tidy_kept (c ∷ cs) t = subst (λ l. Tidy l) (sym (a.some c cs)) (
+    pub tidy_kept : (cs : List Cell) → NoDuplicates cs → NoDuplicates (change cs)
+    tidy_kept [] t = subst (λ l. NoDuplicates l) (sym a.none) tt
+    tidy_kept (c ∷ cs) t = subst (λ l. NoDuplicates l) (sym (a.some c cs)) (
       held_kept cs (a.each c).owner ∙ ap (λ q. held cs q) (stays c) ∙ t.0,
       named_kept cs (a.each c).object.name ∙ ap (λ o. named cs o.name) (a.object c) ∙ t.1,
       tidy_kept cs t.2,

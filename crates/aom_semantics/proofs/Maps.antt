@@ -5,7 +5,7 @@ use Rattle.std.proofs.Common.{arith, Bool, List, None, Option, Some, [], ap, con
 use Rattle.std.proofs.lemmas.Bool.{and_from, eq-eqb, eqb-true, ne_eqb, true≢false}
 use Rattle.std.specs.Prelude.{◌⊎◌}
 use Rattle.aom_semantics.proofs.Altering.{Reads, moving, named_kept, names, read_kept, requests}
-use Rattle.aom_semantics.specs.Places.{Cell, Elsewhere, Entry, Field, Going, Object, Other, Place, Queued, Register, Root, In_service, Session, Tidy}
+use Rattle.aom_semantics.specs.Places.{Cell, Elsewhere, Entry, Field, Going, Object, Other, Place, Queued, Register, Root, In_service, Session, NoDuplicates}
 use Rattle.aom_semantics.specs.Places.{changed, held, moved, named, place_inner, place_kind, place_outer, place_part, requested, same_place, without}
 
 -- equal numbers, equal places
@@ -82,7 +82,7 @@ named_moved cs p q = named_kept (moving p q) cs
 pub requested_moved : (cs : List Cell) (p q : Place) (n : ℕ) → requested (moved p q cs) n ≡ requested cs n
 requested_moved cs p q = read_kept (moving p q) requests (λ c. refl) cs
 
-pub tidy_moved : (cs : List Cell) (p q : Place) → held cs q ≡ None → Tidy cs → Tidy (moved p q cs)
+pub tidy_moved : (cs : List Cell) (p q : Place) → held cs q ≡ None → NoDuplicates cs → NoDuplicates (moved p q cs)
 tidy_moved [] p q free t = tt
 tidy_moved (c ∷ cs) p q free t =
     let f = front_free _ _ _ free in
@@ -133,18 +133,18 @@ pub held_named : (cs : List Cell) (p : Place) (o : Object) → held cs p ≡ Som
 held_named cs p o = found (in_place p) o (λ cs. named cs o.name ≡ None → ⊥) (λ c cs at is n. none-some _ (sym n ∙ named_front c cs o is))
     (λ c cs other e rest n. rest (front_free _ _ _ n).1) cs
 
-pub one_place : (cs : List Cell) (p q : Place) (o x : Object) → Tidy cs → held cs p ≡ Some o → held cs q ≡ Some x → o.name ≡ x.name → p ≡ q
+pub one_place : (cs : List Cell) (p q : Place) (o x : Object) → NoDuplicates cs → held cs p ≡ Some o → held cs q ≡ Some x → o.name ≡ x.name → p ≡ q
 one_place cs p q o x t e f n =
-    found (in_place p) o (λ cs. Tidy cs → held cs q ≡ Some x → p ≡ q) (λ c cs at is t f. ⊎_elim (λ h. sym (same_place-true c.owner p at) ∙ h.0)
+    found (in_place p) o (λ cs. NoDuplicates cs → held cs q ≡ Some x → p ≡ q) (λ c cs at is t f. ⊎_elim (λ h. sym (same_place-true c.owner p at) ∙ h.0)
     (λ h. absurd (held_named cs q x h (ap (λ k. named cs k) (sym n ∙ sym (ap (λ y. y.name) is)) ∙ t.1))) (held_front c cs q x f)) (λ c cs other e rest t f.
     ⊎_elim (λ h. absurd (held_named cs p o e (ap (λ k. named cs k) (n ∙ sym (ap (λ y. y.name) h.1)) ∙ t.1))) (λ h. rest t.2 h) (held_front c cs q x f)) cs e t f
 
 -- what is held is there under its name
-pub held_lives : (cs : List Cell) (p : Place) (o : Object) → Tidy cs → held cs p ≡ Some o → named cs o.name ≡ Some o
-held_lives cs p o t e = found (in_place p) o (λ cs. Tidy cs → named cs o.name ≡ Some o) (λ c cs at is t. named_front c cs o is)
+pub held_lives : (cs : List Cell) (p : Place) (o : Object) → NoDuplicates cs → held cs p ≡ Some o → named cs o.name ≡ Some o
+held_lives cs p o t e = found (in_place p) o (λ cs. NoDuplicates cs → named cs o.name ≡ Some o) (λ c cs at is t. named_front c cs o is)
     (λ c cs other e rest t. ap (λ b. cond b (Some c.object) (named cs o.name)) (apart c cs e t) ∙ rest t.2) cs e t
   where
-    apart : (c : Cell) (cs : List Cell) → held cs p ≡ Some o → Tidy (c ∷ cs) → (c.object.name == o.name) ≡ false
+    apart : (c : Cell) (cs : List Cell) → held cs p ≡ Some o → NoDuplicates (c ∷ cs) → (c.object.name == o.name) ≡ false
     apart c cs e t = ne_eqb c.object.name o.name (λ s. held_named cs p o e (ap (λ k. named cs k) (sym s) ∙ t.1))
 
 -- the cell of a name has that name
@@ -163,14 +163,14 @@ held_without (c ∷ cs) g r = grind (arith, nat_tests, held_without cs g r, same
 
 -- what is read at the first cell of a name is the same but for the name of what goes
 pub read_without : {A : Type 0} {read : List Cell → ℕ → A} (r : Reads read) (cs : List Cell) (g : Place) (o : Object) (n : ℕ) →
-    Tidy cs → held cs g ≡ Some o → (o.name == n) ≡ false → read (without g cs) n ≡ read cs n
+    NoDuplicates cs → held cs g ≡ Some o → (o.name == n) ≡ false → read (without g cs) n ≡ read cs n
 read_without r [] g o n t e d = refl
 read_without {read = read} r (c ∷ cs) g o n t e d = grind (arith, nat_tests, read_without r cs g o n t.2, without_none cs g, same_place-true c.owner g)
 
-pub named_without : (cs : List Cell) (g : Place) (o : Object) (n : ℕ) → Tidy cs → held cs g ≡ Some o → (o.name == n) ≡ false → named (without g cs) n ≡ named cs n
+pub named_without : (cs : List Cell) (g : Place) (o : Object) (n : ℕ) → NoDuplicates cs → held cs g ≡ Some o → (o.name == n) ≡ false → named (without g cs) n ≡ named cs n
 named_without = read_without names
 
-pub requested_without : (cs : List Cell) (g : Place) (o : Object) (n : ℕ) → Tidy cs → held cs g ≡ Some o → (o.name == n) ≡ false →
+pub requested_without : (cs : List Cell) (g : Place) (o : Object) (n : ℕ) → NoDuplicates cs → held cs g ≡ Some o → (o.name == n) ≡ false →
     requested (without g cs) n ≡ requested cs n
 requested_without = read_without requests
 
@@ -179,8 +179,8 @@ named_gone [] g n e = refl
 named_gone (c ∷ cs) g n e = grind (arith, nat_tests, front_free, named_gone cs g n)
 
 -- the cell that goes is there no more
-pub unnamed : (cs : List Cell) (g : Place) (o : Object) → Tidy cs → held cs g ≡ Some o → named (without g cs) o.name ≡ None
-unnamed cs g o t e = found (in_place g) o (λ cs. Tidy cs → named (without g cs) o.name ≡ None)
+pub unnamed : (cs : List Cell) (g : Place) (o : Object) → NoDuplicates cs → held cs g ≡ Some o → named (without g cs) o.name ≡ None
+unnamed cs g o t e = found (in_place g) o (λ cs. NoDuplicates cs → named (without g cs) o.name ≡ None)
     (λ c cs at is t. ap (λ b. named (cond b (without g cs) (c ∷ without g cs)) o.name) at ∙ named_gone cs g o.name (ap (λ x. named cs x.name) (sym is) ∙ t.1))
     (λ c cs other e rest t. ap (λ b. named (cond b (without g cs) (c ∷ without g cs)) o.name) other ∙ ap (λ b. cond b (Some c.object)
     (named (without g cs) o.name)) (ne_eqb c.object.name o.name (λ s. held_named cs g o e (ap (λ k. named cs k) (sym s) ∙ t.1))) ∙ rest t.2) cs e t
@@ -194,10 +194,10 @@ pub requested_unnamed : (cs : List Cell) (n : ℕ) → named cs n ≡ None → r
 requested_unnamed = read_unnamed requests
 
 -- what had no request has none where another cell is gone
-pub unrequested : (cs : List Cell) (g : Place) (n : ℕ) → Tidy cs → requested cs n ≡ None → requested (without g cs) n ≡ None
+pub unrequested : (cs : List Cell) (g : Place) (n : ℕ) → NoDuplicates cs → requested cs n ≡ None → requested (without g cs) n ≡ None
 unrequested [] g n t e = refl
 unrequested (c ∷ cs) g n t e = grind (arith, nat_tests, unrequested cs g n t.2, requested_unnamed, named_gone cs g n, eqb-true)
 
-pub tidy_without : (cs : List Cell) (g : Place) → Tidy cs → Tidy (without g cs)
+pub tidy_without : (cs : List Cell) (g : Place) → NoDuplicates cs → NoDuplicates (without g cs)
 tidy_without [] g t = tt
 tidy_without (c ∷ cs) g t = grind (arith, nat_tests, held_without cs g c.owner, cond_same, tidy_without cs g t.2, named_gone cs g c.object.name t.1)

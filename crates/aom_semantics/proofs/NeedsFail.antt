@@ -21,7 +21,7 @@ use Rattle.aom_semantics.specs.Cases.Turns.{TurnNeedsFail}
 use Rattle.aom_semantics.specs.Cases.Events.{EventNeedsFail}
 use Rattle.aom_semantics.specs.Cases.Words.{WordNeedsFail}
 use Rattle.aom_semantics.specs.Cases.Left.{MovesLeave}
-use Rattle.aom_classes.specs.Roles.{keeper_in, own_role, plays, role_number, role_of}
+use Rattle.aom_link_conditions.specs.Roles.{keeper_in, own_role, fills_role, role_number, role_of}
 
 pub word_needs_fail : WordNeedsFail
 unfolding class_at class_in gives_in instr_in method_at role_in words_in descends_in parent_in
@@ -78,7 +78,7 @@ unfolding is_role role_number kind_of sessions_in sessions_of class_at class_in 
 move_needs_fail = record { going = refl; unwinding = refl; arrival = refl; traps = refl; standing = refl }
 
 pub server_needs_fail : ServerNeedsFail
-unfolding is_role role_number role_of own_role keeper_in plays kind_of kind_in sessions_in sessions_of class_at class_in fields_in gives_in instr_in method_at
+unfolding is_role role_number role_of own_role keeper_in fills_role kind_of kind_in sessions_in sessions_of class_at class_in fields_in gives_in instr_in method_at
     role_in descends_in parent_in
 server_needs_fail = record {
   taking = refl;
@@ -111,7 +111,7 @@ event_needs_fail = record {
 }
 
 pub moves_leave : MovesLeave
-unfolding is_role role_number role_of own_role keeper_in plays kind_of kind_in sessions_in sessions_of class_at class_in fields_in gives_in instr_in method_at
+unfolding is_role role_number role_of own_role keeper_in fills_role kind_of kind_in sessions_in sessions_of class_at class_in fields_in gives_in instr_in method_at
     role_in words_in descends_in parent_in
 moves_leave = record {
   boot = refl;

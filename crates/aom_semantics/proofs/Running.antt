@@ -2,8 +2,8 @@
 use Rattle.std.proofs.Common.{refl}
 use Rattle.aom_image.specs.Views.{arguments_in, class_at, class_in, fields_in, gives_in, instr_in, method_at, role_in}
 use Rattle.aom_roles.specs.Families.{descends_in, parent_in}
-use Rattle.aom_classes.specs.Overriding.{body_of, found_in, leads_in, over_in, overrider_of, replaces}
-use Rattle.aom_classes.specs.Roles.{keeper_in, main_of, own_role, plays, role_number, role_of}
+use Rattle.aom_link_conditions.specs.Overriding.{body_of, found_in, leads_in, over_in, overrider_of, replaces}
+use Rattle.aom_link_conditions.specs.Roles.{keeper_in, main_of, own_role, fills_role, role_number, role_of}
 use Rattle.aom_roles.specs.Classes.{kind_in, sessions_in, sessions_of}
 use Rattle.aom_roles.specs.Shapes.{is_role, kind_of}
 use Rattle.aom_roles.specs.Things.{words_in}
@@ -14,7 +14,7 @@ use Rattle.aom_semantics.specs.Cases.Tokens.{TokensRun}
 
 -- what a run computes with
 shown : Unit {0}
-unfolding arguments_in class_at class_in fields_in gives_in instr_in is_role kind_in kind_of main_of method_at plays role_in role_number role_of own_role
+unfolding arguments_in class_at class_in fields_in gives_in instr_in is_role kind_in kind_of main_of method_at fills_role role_in role_number role_of own_role
     keeper_in sessions_in sessions_of words_in descends_in parent_in body_of found_in overrider_of replaces over_in leads_in
 shown = tt
 

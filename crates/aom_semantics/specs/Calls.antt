@@ -17,13 +17,13 @@ use Rattle.aom_roles.specs.Tests.{only_if}
 use Rattle.aom_roles.specs.Roles.{is_construct}
 use Rattle.aom_roles.specs.Tables.{is_among}
 use Rattle.aom_roles.specs.Families.{fields_above, parent_above}
-use Rattle.aom_classes.specs.Overriding.{body_of}
-use Rattle.aom_roles.specs.Things.{field_thing, holder_of, stands_for}
+use Rattle.aom_link_conditions.specs.Overriding.{body_of}
+use Rattle.aom_roles.specs.Things.{field_thing, holder_of, is_subtype}
 use Rattle.aom_clients.specs.declared.client.Client.{Client}
 use Rattle.aom_semantics.specs.Clients.{at_opening, client_at, with_client}
 use Rattle.aom_semantics.specs.Servers.{without_queue, opened, reserved}
 use Rattle.aom_semantics.specs.Places.{Object, Place, Register, Entry, Field, Going, Elsewhere, Cell, held, moved, Session, In_service}
-use Rattle.aom_semantics.specs.State.{Home, Static, AtRoot, Inside, Frame, Dispatch, Asks, Answered, Task, Run, Trapped, Destroy, Unwind, Dispatched, Item, An_object, An_operation, A_mark, State, Need, Unbalanced, PopUnder, Orphan, NullOrDead, WrongKind, word, set_word, next, field_place, home_view, frame_as, Of_server, Of_object, Accepts, Accepted, Serves, MessageLost, CompletedTwice}
+use Rattle.aom_semantics.specs.State.{Receiver, Static, AtRoot, Inside, Frame, Dispatch, Asks, Answered, Task, Run, Trapped, Destroy, Unwind, Dispatched, Item, An_object, An_operation, A_mark, State, Need, Unbalanced, PopUnder, Orphan, NullOrDead, WrongKind, word, set_word, next, field_place, receiver_view, frame_as, Of_server, Of_object, Accepts, Accepted, Serves, MessageLost, CompletedTwice}
 use Rattle.aom_semantics.specs.Destruction.{line_on, needs_past}
 use Rattle.aom_semantics.specs.Requests.{needs_cancelled}
 use Rattle.aom_semantics.specs.Tokens.{is_redeemable, token_of}
@@ -34,7 +34,7 @@ use Rattle.aom_semantics.specs.Objects.{is_thing}
 abbrev pub works_on : Image → Option ℕ → Option ℕ → Bool
 works_on p None view = true
 works_on p (Some c) None = false
-works_on p (Some c) (Some x) = stands_for p (An_object_of x) (An_object_of c)
+works_on p (Some c) (Some x) = is_subtype p (An_object_of x) (An_object_of c)
 
 -- a method of that class may work on this object
 abbrev pub is_worked_on : Image → Option ℕ → Option Object → Bool
@@ -45,14 +45,14 @@ abbrev pub needs_target_object : Image → Option ℕ → Option Object → List
 needs_target_object p class o = (is_some o, NullOrDead) ∷ (is_worked_on p class o, WrongKind) ∷ []
 
 -- what a place owns, as what a method works on
-abbrev pub home_at : Option Object → Place → Home
-home_at None from = Static
-home_at (Some o) from = Inside o from
+abbrev pub receiver_at : Option Object → Place → Receiver
+receiver_at None from = Static
+receiver_at (Some o) from = Inside o from
 
 -- a static method works on nothing, another on what this one works on
-abbrev pub own_home : Option ℕ → Home → Home
-own_home None home = Static
-own_home (Some c) home = home
+abbrev pub own_receiver : Option ℕ → Receiver → Receiver
+own_receiver None receiver = Static
+own_receiver (Some c) receiver = receiver
 
 -- which counts as it does for this one
 abbrev pub own_view : Option ℕ → Option ℕ → Option ℕ
@@ -80,9 +80,9 @@ abbrev pub entry_place : List Item → ℕ → Place
 entry_place items k = Entry (length items - suc k)
 
 -- no field of what a method works on, of so many, owns
-abbrev pub none_filled : List Cell → Home → ℕ → Bool
-none_filled cs home zero = true
-none_filled cs home (suc n) = is_none (held cs (field_place home n)) && none_filled cs home n
+abbrev pub none_filled : List Cell → Receiver → ℕ → Bool
+none_filled cs receiver zero = true
+none_filled cs receiver (suc n) = is_none (held cs (field_place receiver n)) && none_filled cs receiver n
 
 module _ (p : Image) (fr : Frame) (ts : List Task) (s : State) where
   -- a register owns what may stand for that thing
@@ -99,7 +99,7 @@ module _ (p : Image) (fr : Frame) (ts : List Task) (s : State) where
 
   -- where a construct calls its parent's on its own object, no field that the parent declares owns
   abbrev pub parents_empty : ℕ → Need
-  parents_empty m = (only_if (is_construct (method_role p m)) (none_filled s.cells fr.home (fields_above p (parent_above p fr.method))), Orphan)
+  parents_empty m = (only_if (is_construct (method_role p m)) (none_filled s.cells fr.receiver (fields_above p (parent_above p fr.method))), Orphan)
 
   abbrev pub needs_target : Target → ℕ → Option ℕ → ℕ → ℕ → List Need
   needs_target This m class first count = (works_on p class fr.view, WrongKind) ∷ parents_empty m ∷ []
@@ -110,24 +110,24 @@ module _ (p : Image) (fr : Frame) (ts : List Task) (s : State) where
       ∷ []))
   needs_target (On_field f) m class first count =
       (is_some (field_thing p (holder_of p fr.method) f), WrongKind)
-      ∷ needs_target_object p class (held s.cells (field_place fr.home f))
+      ∷ needs_target_object p class (held s.cells (field_place fr.receiver f))
   needs_target (On_entry k) m class first count =
       (is_some (entry_at s.items k), PopUnder)
       ∷ (is_no_operation (entry_at s.items k), WrongKind)
       ∷ needs_target_object p class (held s.cells (entry_place s.items k))
 
-  abbrev pub target_home : Target → Option ℕ → Home
-  target_home This class = own_home class fr.home
-  target_home (On_register r) class = home_at (held s.cells (here fr ts s r)) (here fr ts s r)
-  target_home (On_field f) class = home_at (held s.cells (field_place fr.home f)) (field_place fr.home f)
-  target_home (On_entry k) class = home_at (held s.cells (entry_place s.items k)) (entry_place s.items k)
+  abbrev pub target_receiver : Target → Option ℕ → Receiver
+  target_receiver This class = own_receiver class fr.receiver
+  target_receiver (On_register r) class = receiver_at (held s.cells (here fr ts s r)) (here fr ts s r)
+  target_receiver (On_field f) class = receiver_at (held s.cells (field_place fr.receiver f)) (field_place fr.receiver f)
+  target_receiver (On_entry k) class = receiver_at (held s.cells (entry_place s.items k)) (entry_place s.items k)
 
   -- what the object of the target counts as: its own class, where it is not this one's
   abbrev pub target_view : Target → Option ℕ → Option ℕ
   target_view This class = own_view class fr.view
-  target_view (On_register r) class = home_view (target_home (On_register r) class)
-  target_view (On_field f) class = home_view (target_home (On_field f) class)
-  target_view (On_entry k) class = home_view (target_home (On_entry k) class)
+  target_view (On_register r) class = receiver_view (target_receiver (On_register r) class)
+  target_view (On_field f) class = receiver_view (target_receiver (On_field f) class)
+  target_view (On_entry k) class = receiver_view (target_receiver (On_entry k) class)
 
   -- what a call of the method runs: the method, or what overrides it for what the target counts as
   abbrev pub run_by : Target → ℕ → ℕ
@@ -195,7 +195,7 @@ module _ (p : Image) (fr : Frame) (ts : List Task) (s : State) where
   -- what the call runs, with the arguments of the method called in its first registers, at that height of the cleanup stack
   abbrev pub entered : Target → ℕ → ℕ → ℕ → Frame
   entered target m first height =
-      record (frame_as (run_by target m) (target_home target (method_class p m)) (target_view target (method_class p m)) height) { words = passed_words (arguments_of p m) first }
+      record (frame_as (run_by target m) (target_receiver target (method_class p m)) (target_view target (method_class p m)) height) { words = passed_words (arguments_of p m) first }
 
 -- the register of a call's result, and the method that is called
 abbrev pub result_of : Option Action → ℕ
@@ -247,11 +247,11 @@ below_top [] = []
 below_top (i ∷ items) = items
 
 -- the last item is the mark of a trap
-abbrev pub tops_mark : List Item → Bool
-tops_mark [] = false
-tops_mark (An_object ∷ items) = false
-tops_mark (An_operation m w ∷ items) = false
-tops_mark (A_mark ∷ items) = true
+abbrev pub top_matches_mark : List Item → Bool
+top_matches_mark [] = false
+top_matches_mark (An_object ∷ items) = false
+top_matches_mark (An_operation m w ∷ items) = false
+top_matches_mark (A_mark ∷ items) = true
 
 -- ---- the answer of an `error` method
 
@@ -264,12 +264,12 @@ abbrev pub answered_by : ℤ → Dispatch → Dispatch
 answered_by answer (Asks x) = Answered x answer
 answered_by answer d = d
 
-abbrev pub told_answer : Gives → Frame → ℕ → ℤ
-told_answer A_word fr a = word_or_zero (word fr a)
-told_answer _ fr a = pos 0
+abbrev pub reported_answer : Gives → Frame → ℕ → ℤ
+reported_answer A_word fr a = word_or_zero (word fr a)
+reported_answer _ fr a = pos 0
 
 -- what a destructor works on is a cell, no field of which owns past those of the parent of its class; what waits in its queue is none
-abbrev pub needs_destroyed : Image → ℕ → List Cell → Home → List Need
+abbrev pub needs_destroyed : Image → ℕ → List Cell → Receiver → List Need
 needs_destroyed p m cs Static = (false, Orphan) ∷ []
 needs_destroyed p m cs AtRoot = (false, Orphan) ∷ []
 needs_destroyed p m cs (Inside o from) = needs_past (fields_above p (parent_above p m)) (without_queue o.name cs) o.name
@@ -324,9 +324,9 @@ module _ (p : Image) (fr : Frame) (ts : List Task) (s : State) where
   -- something waits for the method's end: where it is a trap, its mark is the last item, and a destructor leaves nothing in its cell
   abbrev pub end_needs : List Task → List Need
   end_needs (Run caller ∷ below) = []
-  end_needs (Trapped ∷ Run caller ∷ below) = (tops_mark s.items, Unbalanced) ∷ []
-  end_needs (Trapped ∷ Dispatched d ∷ below) = (tops_mark s.items, Unbalanced) ∷ needs_ended d s.cells
-  end_needs (Destroy ∷ below) = needs_destroyed p fr.method s.cells fr.home
+  end_needs (Trapped ∷ Run caller ∷ below) = (top_matches_mark s.items, Unbalanced) ∷ []
+  end_needs (Trapped ∷ Dispatched d ∷ below) = (top_matches_mark s.items, Unbalanced) ∷ needs_ended d s.cells
+  end_needs (Destroy ∷ below) = needs_destroyed p fr.method s.cells fr.receiver
   end_needs (Unwind code ∷ below) = []
   end_needs (Dispatched d ∷ below) = (is_asked d, Unbalanced) ∷ []
   end_needs _ = (false, Unbalanced) ∷ []
@@ -374,7 +374,7 @@ module _ (p : Image) (fr : Frame) (ts : List Task) (s : State) where
         items = below_top s.items;
         clients = accepted_clients d s.clients;
       }
-  returned g a (Destroy ∷ below) = record s { tasks = line_on p fr.method fr.home fr.height below }
+  returned g a (Destroy ∷ below) = record s { tasks = line_on p fr.method fr.receiver fr.height below }
   returned g a (Unwind code ∷ below) = record s { tasks = Unwind code ∷ below }
-  returned g a (Dispatched d ∷ below) = record s { tasks = Dispatched (answered_by (told_answer g fr a) d) ∷ below }
+  returned g a (Dispatched d ∷ below) = record s { tasks = Dispatched (answered_by (reported_answer g fr a) d) ∷ below }
   returned g a _ = s

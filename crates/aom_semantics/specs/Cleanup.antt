@@ -70,17 +70,17 @@ is_mark (An_operation m w) = false
 is_mark A_mark = true
 
 -- an item is there, and it is no mark
-abbrev pub tops_entry : List Item → Bool
-tops_entry [] = false
-tops_entry (i ∷ items) = not (is_mark i)
+abbrev pub top_matches_entry : List Item → Bool
+top_matches_entry [] = false
+top_matches_entry (i ∷ items) = not (is_mark i)
 
-abbrev pub tops_object : List Item → Bool
-tops_object [] = false
-tops_object (i ∷ items) = is_object_item i
+abbrev pub top_matches_object : List Item → Bool
+top_matches_object [] = false
+top_matches_object (i ∷ items) = is_object_item i
 
-abbrev pub tops_operation : List Item → Bool
-tops_operation [] = false
-tops_operation (i ∷ items) = is_operation_item i
+abbrev pub top_matches_operation : List Item → Bool
+top_matches_operation [] = false
+top_matches_operation (i ∷ items) = is_operation_item i
 
 -- the place of the last item
 abbrev pub top_place : List Item → Place
@@ -127,18 +127,18 @@ ended_by code (Of_server x c (Serves o)) = Of_server x c (Service_left code)
 ended_by code d = d
 
 -- the code is in the register after the result's, where there is no object, or the word 0
-abbrev pub code_told : Gives → ℕ → ℤ → Frame → Frame
-code_told Nothing c code fr = set_word fr (suc c) (Some code)
-code_told A_word c code fr = set_word (set_word fr c (Some (pos 0))) (suc c) (Some code)
-code_told (An_own t) c code fr = set_word (set_word fr c None) (suc c) (Some code)
-code_told (A_maybe t) c code fr = set_word (set_word fr c None) (suc c) (Some code)
-code_told (Left x) c code fr = set_word fr (suc c) (Some code)
+abbrev pub code_reported : Gives → ℕ → ℤ → Frame → Frame
+code_reported Nothing c code fr = set_word fr (suc c) (Some code)
+code_reported A_word c code fr = set_word (set_word fr c (Some (pos 0))) (suc c) (Some code)
+code_reported (An_own t) c code fr = set_word (set_word fr c None) (suc c) (Some code)
+code_reported (A_maybe t) c code fr = set_word (set_word fr c None) (suc c) (Some code)
+code_reported (Left x) c code fr = set_word fr (suc c) (Some code)
 
 -- to the method that set the trap, or to the dispatch
 abbrev pub arrived : Image → ℤ → List Task → List Item → State → Outcome
 arrived p code (Trapped ∷ Run fr ∷ ts) items s =
     let i = instr_at p fr.method fr.place in
-    Goes (record s { tasks = Run (next (code_told (called p i) (result_register i) code fr)) ∷ ts; items = items })
+    Goes (record s { tasks = Run (next (code_reported (called p i) (result_register i) code fr)) ∷ ts; items = items })
 arrived p code (Trapped ∷ Dispatched d ∷ ts) items s = Goes (record s { tasks = Dispatched (ended_by code d) ∷ ts; items = items })
 arrived p code _ items s = IsStuck Unbalanced
 
@@ -184,15 +184,15 @@ module _ (p : Image) (c : Choice) (fr : Frame) (ts : List Task) (s : State) wher
   abbrev pub needs_pop : ℕ → List Need
   needs_pop a =
       (is_none (held s.cells (here fr ts s a)), Orphan)
-      ∷ (tops_entry s.items, PopUnder)
-      ∷ (tops_object s.items, WrongKind)
+      ∷ (top_matches_entry s.items, PopUnder)
+      ∷ (top_matches_object s.items, WrongKind)
       ∷ []
 
   abbrev pub needs_pop_operation : List Need
-  needs_pop_operation = (tops_entry s.items, PopUnder) ∷ (tops_operation s.items, WrongKind) ∷ []
+  needs_pop_operation = (top_matches_entry s.items, PopUnder) ∷ (top_matches_operation s.items, WrongKind) ∷ []
 
   abbrev pub needs_pop_delete : List Need
-  needs_pop_delete = (tops_entry s.items, PopUnder) ∷ (top_is_whole s.cells s.items, NullOrDead) ∷ []
+  needs_pop_delete = (top_matches_entry s.items, PopUnder) ∷ (top_is_whole s.cells s.items, NullOrDead) ∷ []
 
   abbrev pub needs_leave : ℕ → List Need
   needs_leave a = needs_word fr ts s a ∷ leave_needs s.cells (Run fr ∷ ts)

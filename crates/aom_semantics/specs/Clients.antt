@@ -11,10 +11,10 @@ use Rattle.aom_clients.specs.declared.client.Client.{Client}
 use Rattle.aom_clients.specs.declared.client.Client.TheVariants.{Unconnected, Connecting, Open, Closing, Dead, Dying}
 use Rattle.aom_clients.specs.declared.refusal.CommandRefusal.{CommandRefusal}
 use Rattle.aom_clients.specs.declared.refusal.CommandRefusal.TheVariants.{NotFound, ServerBusy}
-use Rattle.aom_clients.specs.Table.{at_gone, row}
-use Rattle.aom_roles.specs.Tables.{at, put_at}
+use Rattle.aom_clients.specs.Table.{after_server_destroyed, row}
+use Rattle.aom_roles.specs.Tables.{at, set_extending}
 use Rattle.aom_semantics.specs.Places.{Asked, Cell, Close_of, Connect_of, Message_of, Elsewhere, Object, Queued, Request, service_of, unserved}
-use Rattle.aom_semantics.specs.Servers.{asked_last, is_server, reserved, seats_taken, slots_taken, withdrawn, all_unslotted}
+use Rattle.aom_semantics.specs.Servers.{asked_last, is_server, reserved, sessions_in_use, slots_taken, withdrawn, all_slot_released}
 use Rattle.aom_semantics.specs.State.{State}
 use Rattle.aom_transcript.specs.declared.event.ClientCommand.{ClientCommand}
 use Rattle.aom_transcript.specs.declared.event.ClientCommand.TheVariants.{Connect, Send, Close, Die}
@@ -29,7 +29,7 @@ abbrev pub client_at : List Client → ℕ → Client
 client_at clients c = at Unconnected clients c
 
 abbrev pub with_client : ℕ → Client → List Client → List Client
-with_client c to clients = put_at Unconnected clients c to
+with_client c to clients = set_extending Unconnected clients c to
 
 -- its connect is served
 abbrev pub at_opening : ℕ → Client → Client
@@ -78,7 +78,7 @@ asked_server p class cs = cond (is_server p (An_object_of class)) (first_listed 
 abbrev pub asked_of : Option CommandRefusal → ℕ → Option Listed → List Cell → Option CommandRefusal
 asked_of (Some refusal) most server cs = Some refusal
 asked_of None most None cs = Some NotFound
-asked_of None most (Some x) cs = cond (nat_lt (seats_taken (service_of cs x.name)) most) None (Some ServerBusy)
+asked_of None most (Some x) cs = cond (nat_lt (sessions_in_use (service_of cs x.name)) most) None (Some ServerBusy)
 
 -- ---- a command
 
@@ -99,7 +99,7 @@ sent_message c name words server = record {
   words = words;
   request = None;
   session = false;
-  service = record unserved { sender = Some (record { client = c; holds_slot = true; is_told = true }) };
+  service = record unserved { sender = Some (record { client = c; holds_slot = true; is_reported = true }) };
   owner = Elsewhere (Queued server name);
 }
 
@@ -131,13 +131,13 @@ module _ (p : Image) (client : ℕ) (s : State) where
   sending _ _ name words = s
 
   -- a client that had its session open has a close queued last
-  abbrev pub told : Client → List Cell → List Cell
-  told (Open server session slots) cs = reserved (asked_last (Close_of client)) server cs
-  told _ cs = cs
+  abbrev pub reported : Client → List Cell → List Cell
+  reported (Open server session slots) cs = reserved (asked_last (Close_of client)) server cs
+  reported _ cs = cs
 
   abbrev pub leaving : Option Client → State
   leaving None = s
-  leaving (Some to) = record s { cells = told own (withdrawn client s.cells); clients = with_client client to s.clients }
+  leaving (Some to) = record s { cells = reported own (withdrawn client s.cells); clients = with_client client to s.clients }
 
   -- what it comes to, with that name for a message
   abbrev pub commanded : ClientCommand → ℕ → State
@@ -156,9 +156,9 @@ queue_ended (Close_of c ∷ es) clients = queue_ended es clients
 
 abbrev pub sessions_ended : List ℕ → List Client → List Client
 sessions_ended [] clients = clients
-sessions_ended (c ∷ cs) clients = sessions_ended cs (with_client c (at_gone (client_at clients c)) clients)
+sessions_ended (c ∷ cs) clients = sessions_ended cs (with_client c (after_server_destroyed (client_at clients c)) clients)
 
 -- the messages of these hold no slot any more
-abbrev pub each_unslotted : List ℕ → List Cell → List Cell
-each_unslotted [] cells = cells
-each_unslotted (c ∷ cs) cells = each_unslotted cs (all_unslotted c cells)
+abbrev pub each_slot_released : List ℕ → List Cell → List Cell
+each_slot_released [] cells = cells
+each_slot_released (c ∷ cs) cells = each_slot_released cs (all_slot_released c cells)

@@ -6,12 +6,12 @@ use Rattle.aom_image.specs.declared.method.Role.TheVariants.{Destruct}
 use Rattle.aom_image.specs.declared.method.Thing.{Thing}
 use Rattle.aom_roles.specs.Things.{is_object}
 use Rattle.aom_roles.specs.Families.{parent_above}
-use Rattle.aom_classes.specs.Roles.{destructor_of, role_of}
-use Rattle.aom_semantics.specs.Clients.{each_unslotted, queue_ended, sessions_ended}
+use Rattle.aom_link_conditions.specs.Roles.{destructor_of, role_of}
+use Rattle.aom_semantics.specs.Clients.{each_slot_released, queue_ended, sessions_ended}
 use Rattle.aom_semantics.specs.Servers.{is_server, without_queue}
 use Rattle.aom_semantics.specs.Requests.{is_idle}
 use Rattle.aom_semantics.specs.Places.{Place, Register, Entry, Field, Going, Elsewhere, Object, Cell, Request, requested, without, Session, other_cell, service_of, held, moved}
-use Rattle.aom_semantics.specs.State.{AtRoot, Home, Inside, Static, Task, Frame, Run, Destroy, frame_as, State, Outcome, Need, IsStuck, MessageLost, Orphan, NullOrDead, ActiveDestroyed, guarded, resumed, Closing, Seat, Goes, Unbalanced}
+use Rattle.aom_semantics.specs.State.{AtRoot, Receiver, Inside, Static, Task, Frame, Run, Destroy, frame_as, State, Outcome, Need, IsStuck, MessageLost, Orphan, NullOrDead, ActiveDestroyed, guarded, resumed, Closing, OwnedObject, Goes, Unbalanced}
 
 abbrev pub class_destructor : Image → Option ℕ → Option ℕ
 class_destructor p None = None
@@ -78,22 +78,22 @@ abbrev pub needs_gone : List Cell → Object → List Need
 needs_gone cs o = needs_emptied cs o.name ++ ((is_at_rest (requested cs o.name), ActiveDestroyed) ∷ [])
 
 -- a cell is gone, with what waits in its queue where it is a server
-abbrev pub vanished : Object → List Task → State → State
-vanished o ts s =
+abbrev pub reclaimed : Object → List Task → State → State
+reclaimed o ts s =
     let left = without_queue o.name s.cells in
     let service = service_of s.cells o.name in
     record s {
-      cells = each_unslotted service.sessions (without (Going (length ts)) left);
+      cells = each_slot_released service.sessions (without (Going (length ts)) left);
       tasks = resumed ts;
       clients = sessions_ended service.sessions (queue_ended service.queue s.clients);
     }
 
 abbrev pub gone : Option Object → List Task → State → Outcome
 gone None ts s = IsStuck NullOrDead
-gone (Some o) ts s = guarded (needs_gone (without_queue o.name s.cells) o) (vanished o ts s)
+gone (Some o) ts s = guarded (needs_gone (without_queue o.name s.cells) o) (reclaimed o ts s)
 
 -- a destructor is over: the next of the line begins on the same object, or the cell goes next
-abbrev pub line_on : Image → ℕ → Home → ℕ → List Task → List Task
+abbrev pub line_on : Image → ℕ → Receiver → ℕ → List Task → List Task
 line_on p m Static height below = Destroy ∷ below
 line_on p m AtRoot height below = Destroy ∷ below
 line_on p m (Inside o from) height below = begun_by p (next_destructor p m) o height below
@@ -119,17 +119,17 @@ needs_past k cs n = (owns_none_past k is_object cs n, Orphan) ∷ (owns_none_pas
 
 -- ---- the sessions of a server
 
-abbrev pub seat_or : Option Object → Place → Option Seat → Option Seat
-seat_or None place others = others
-seat_or (Some o) place others = Some (record { object = o; place = place })
+abbrev pub owned_object_or : Option Object → Place → Option OwnedObject → Option OwnedObject
+owned_object_or None place others = others
+owned_object_or (Some o) place others = Some (record { object = o; place = place })
 
 -- the first of these clients' sessions that is there
-abbrev pub first_session : List Cell → ℕ → List ℕ → Option Seat
+abbrev pub first_session : List Cell → ℕ → List ℕ → Option OwnedObject
 first_session cs n [] = None
-first_session cs n (c ∷ clients) = seat_or (held cs (Elsewhere (Session n c))) (Elsewhere (Session n c)) (first_session cs n clients)
+first_session cs n (c ∷ clients) = owned_object_or (held cs (Elsewhere (Session n c))) (Elsewhere (Session n c)) (first_session cs n clients)
 
 -- it goes before its server, in order of connection; where none is left the destructor begins
-abbrev pub parting : Image → Object → Option Seat → List Task → State → State
+abbrev pub parting : Image → Object → Option OwnedObject → List Task → State → State
 parting p o None below s = record s { tasks = destructed p o (length s.items) below }
 parting p o (Some x) below s =
     record s {

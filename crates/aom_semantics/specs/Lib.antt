@@ -11,7 +11,7 @@ pub mod Servers
 pub mod Clients
 pub mod Tokens
 pub mod Lines
-pub mod Wanted
+pub mod NativeCall
 pub mod Effects
 pub mod Moves
 pub mod Owned

@@ -6,24 +6,24 @@ use Rattle.aom_clients.specs.declared.refusal.CommandRefusal.TheVariants.{Server
 use Rattle.aom_image.specs.declared.method.Thing.{Thing}
 use Rattle.aom_image.specs.declared.method.Thing.TheVariants.{Object as An_object_of}
 use Rattle.aom_semantics.specs.Places.{Asked, Cell, Close_of, Connect_of, Elsewhere, In_service, Message_of, Object, Sender, held, service_of}
-use Rattle.aom_semantics.specs.State.{Accept_left, Accepted, Accepts, Dispatch, Of_server, Parts, Service_left, Serves, Stage}
+use Rattle.aom_semantics.specs.State.{Accept_left, Accepted, Accepts, Dispatch, Of_server, Disconnects, Service_left, Serves, Stage}
 use Rattle.aom_transcript.specs.declared.line.Asked.TheVariants.{Close, Connect, Message}
 use Rattle.aom_transcript.specs.declared.line.Line.{Line}
 use Rattle.aom_transcript.specs.declared.line.Line.TheVariants.{Discard, Refuse, Reply, Serve}
 
 -- a message is completed with that code: its client is told, unless it has closed or died since
-abbrev pub told_line : ℤ → Option Sender → List Line
-told_line code None = []
-told_line code (Some m) = cond m.is_told (Reply m.client code) (Discard m.client code) ∷ []
+abbrev pub reported_line : ℤ → Option Sender → List Line
+reported_line code None = []
+reported_line code (Some m) = cond m.is_reported (Reply m.client code) (Discard m.client code) ∷ []
 
 abbrev pub message_line : List Cell → Option Object → ℤ → List Line
 message_line cs None code = []
-message_line cs (Some o) code = told_line code (service_of cs o.name).sender
+message_line cs (Some o) code = reported_line code (service_of cs o.name).sender
 
 -- what waits as its server goes is completed with the code of that, and a close has no answer
 abbrev pub ended_line : List Cell → Asked → List Line
 ended_line cs (Connect_of c) = Reply c (code_of ServerTerminated) ∷ []
-ended_line cs (Message_of c m) = told_line (code_of ServerTerminated) (service_of cs m).sender
+ended_line cs (Message_of c m) = reported_line (code_of ServerTerminated) (service_of cs m).sender
 ended_line cs (Close_of c) = []
 
 -- all of it, in order
@@ -38,7 +38,7 @@ stage_lines cs c Accepted = Reply c (pos 0) ∷ []
 stage_lines cs c (Accept_left code) = Reply c code ∷ []
 stage_lines cs c (Serves o) = []
 stage_lines cs c (Service_left code) = message_line cs (held cs (Elsewhere In_service)) code
-stage_lines cs c Parts = []
+stage_lines cs c Disconnects = []
 
 abbrev pub dispatch_lines : List Cell → Dispatch → List Line
 dispatch_lines cs (Of_server x c stage) = stage_lines cs c stage

@@ -8,9 +8,9 @@ use Rattle.aom_image.specs.declared.class.ClassKind.TheVariants.{Active as An_ac
 use Rattle.aom_image.specs.declared.class.Provider.TheVariants.{Native}
 use Rattle.aom_image.specs.declared.method.Thing.{Thing}
 use Rattle.aom_roles.specs.Kinds.{is_native_kind}
-use Rattle.aom_semantics.specs.Requests.{completed_with, home_kind, is_idle, on_request, own_request, pending, recorded, thing_kind}
+use Rattle.aom_semantics.specs.Requests.{completed_with, receiver_kind, is_idle, on_request, own_request, pending, recorded, thing_kind}
 use Rattle.aom_semantics.specs.Places.{Cell, Request, in_session, set_session}
-use Rattle.aom_semantics.specs.State.{Frame, Home, Static, AtRoot, Inside, Need, State, Task, ClosedWhileOutstanding, WrongKind}
+use Rattle.aom_semantics.specs.State.{Frame, Receiver, Static, AtRoot, Inside, Need, State, Task, ClosedWhileOutstanding, WrongKind}
 use Rattle.aom_semantics.specs.Words.{needs_word, needs_written}
 
 -- ---- natives and sessions
@@ -29,16 +29,16 @@ has_died killed None = false
 has_died killed (Some n) = is_dead killed n
 
 -- what a frame works on has a session open at its native
-abbrev pub own_session : List Cell → Home → Bool
+abbrev pub own_session : List Cell → Receiver → Bool
 own_session cs Static = false
 own_session cs AtRoot = false
 own_session cs (Inside o from) = in_session cs o.name
 
 -- the cells with its session open or not
-abbrev pub resessioned : List Cell → Home → Bool → List Cell
-resessioned cs Static session = cs
-resessioned cs AtRoot session = cs
-resessioned cs (Inside o from) session = set_session o.name session cs
+abbrev pub session_updated : List Cell → Receiver → Bool → List Cell
+session_updated cs Static session = cs
+session_updated cs AtRoot session = cs
+session_updated cs (Inside o from) session = set_session o.name session cs
 
 -- ---- codes
 
@@ -93,21 +93,21 @@ abbrev pub terminated_request : Option Request → Option Request
 terminated_request r = cond (is_owed r) (on_request (completed_with terminated) r) r
 
 -- what a cell that it serves has outstanding there is completed, and its session is over
-abbrev pub bereaved : Image → ℕ → Cell → Cell
-bereaved p n c = record c { request = cond (is_served_by p n c.object.thing) (terminated_request c.request) c.request; session = not (is_served_by p n c.object.thing) && c.session }
+abbrev pub detached : Image → ℕ → Cell → Cell
+detached p n c = record c { request = cond (is_served_by p n c.object.thing) (terminated_request c.request) c.request; session = not (is_served_by p n c.object.thing) && c.session }
 
-abbrev pub all_bereaved : Image → ℕ → List Cell → List Cell
-all_bereaved p n cs = map (bereaved p n) cs
+abbrev pub all_detached : Image → ℕ → List Cell → List Cell
+all_detached p n cs = map (detached p n) cs
 
 -- ---- the needs of instructions
 
 module _ (p : Image) (fr : Frame) (ts : List Task) (s : State) where
   -- the native that serves what the frame works on is killed
   abbrev pub is_served_by_dead : Bool
-  is_served_by_dead = has_died s.killed (native_of (home_kind p fr.home))
+  is_served_by_dead = has_died s.killed (native_of (receiver_kind p fr.receiver))
 
   abbrev pub needs_native : Need
-  needs_native = (is_native_kind (home_kind p fr.home), WrongKind)
+  needs_native = (is_native_kind (receiver_kind p fr.receiver), WrongKind)
 
   abbrev pub needs_connect : ℕ → List Need
   needs_connect a = needs_native ∷ needs_written fr ts s a
@@ -117,4 +117,4 @@ module _ (p : Image) (fr : Frame) (ts : List Task) (s : State) where
 
   -- nothing is owed to what the session is closed for
   abbrev pub needs_close : List Need
-  needs_close = needs_native ∷ (not (is_owed (own_request s.cells fr.home)), ClosedWhileOutstanding) ∷ []
+  needs_close = needs_native ∷ (not (is_owed (own_request s.cells fr.receiver)), ClosedWhileOutstanding) ∷ []

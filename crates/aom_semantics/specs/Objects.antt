@@ -2,7 +2,7 @@
 use Rattle.std.specs.Prelude.{ℕ, ℤ, pos, Bool, true, false, List, [], ◌∷◌, Option, Some, None, is_some, is_none, replicate}
 use Rattle.aom_image.specs.Image.{Image}
 use Rattle.aom_image.specs.declared.method.Thing.{Thing}
-use Rattle.aom_roles.specs.Things.{stands_for, field_thing, holder_of, words_of, is_object}
+use Rattle.aom_roles.specs.Things.{is_subtype, field_thing, holder_of, words_of, is_object}
 use Rattle.aom_image.specs.Views.{method_role}
 use Rattle.aom_image.specs.declared.method.Role.TheVariants.{Service as Attends}
 use Rattle.aom_roles.specs.Shapes.{is_role}
@@ -13,7 +13,7 @@ use Rattle.aom_semantics.specs.Words.{here, needs_written}
 -- what may stand for that thing, or nothing
 abbrev pub is_thing : Image → Thing → Option Object → Bool
 is_thing p t None = true
-is_thing p t (Some o) = stands_for p o.thing t
+is_thing p t (Some o) = is_subtype p o.thing t
 
 abbrev pub is_declared_thing : Image → Option Thing → Option Object → Bool
 is_declared_thing p None o = false
@@ -49,7 +49,7 @@ module _ (p : Image) (c : Choice) (fr : Frame) (ts : List Task) (s : State) wher
   needs_put f b =
       (is_none (word fr b), WrongKind)
       ∷ (is_declared_thing p (field_thing p (holder_of p fr.method) f) (held s.cells (here fr ts s b)), WrongKind)
-      ∷ (is_none (held s.cells (field_place fr.home f)), Orphan)
+      ∷ (is_none (held s.cells (field_place fr.receiver f)), Orphan)
       ∷ []
 
   -- the method serves a message, and has not taken it yet

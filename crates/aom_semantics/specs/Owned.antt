@@ -4,7 +4,7 @@ use Rattle.aom_image.specs.Image.{Image}
 use Rattle.aom_instructions.specs.Operands.{IsRegister}
 use Rattle.aom_roles.specs.Things.{Program, field_thing}
 use Rattle.aom_semantics.specs.Servers.{has_message, has_session}
-use Rattle.aom_semantics.specs.Places.{Place, Register, Entry, Field, Going, Elsewhere, Other, Root, Session, In_service, Queued, Object, Cell, Tidy, held, named, other_cell, service_of}
+use Rattle.aom_semantics.specs.Places.{Place, Register, Entry, Field, Going, Elsewhere, Other, Root, Session, In_service, Queued, Object, Cell, NoDuplicates, held, named, other_cell, service_of}
 use Rattle.aom_semantics.specs.State.{Task, Run, Trapped, Destroy, Unwind, Dispatched, Item, An_object, An_operation, A_mark, State, thing_holder, Closing, Of_server, Stage, Serves, Service_left}
 
 -- what stands over so many others
@@ -87,5 +87,5 @@ NoneGoes (Dispatched d ∷ ts) = NoneGoes ts
 pub record Owned (p : Image) (s : State) : Type 0 where
   pub each : AllOwned p s s.cells
   -- no place owns two cells, and no two have one name
-  pub alone : Tidy s.cells
+  pub alone : NoDuplicates s.cells
   pub settled : NoneGoes s.tasks

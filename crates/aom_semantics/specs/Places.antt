@@ -2,7 +2,7 @@
 use Rattle.std.specs.Prelude.{ℕ, suc, ℤ, pos, Bool, false, cond, ◌&&◌, ◌==◌, ◌≡◌, List, [], ◌∷◌, Option, Some, None}
 use Rattle.aom_image.specs.declared.method.Thing.{Thing}
 use Rattle.aom_roles.specs.Things.{is_object}
-use Rattle.aom_roles.specs.Tables.{at, put_at}
+use Rattle.aom_roles.specs.Tables.{at, set_extending}
 
 -- places that are no method's, and no cell's fields
 pub data Other : Type 0 where
@@ -123,7 +123,7 @@ pub data Asked : Type 0 where
 pub record Sender : Type 0 where
   pub client : ℕ
   pub holds_slot : Bool
-  pub is_told : Bool
+  pub is_reported : Bool
 
 -- of a message that an object has handed out: the class of the object, and how many were handed before it
 pub record Token : Type 0 where
@@ -167,11 +167,11 @@ requested [] n = None
 requested (c ∷ cs) n = cond (c.object.name == n) c.request (requested cs n)
 
 -- what the cells show: what each place holds, and the request of each name
-pub record Sight : Type 0 where
+pub record CellView : Type 0 where
   pub holds : Place → Option Object
   pub requests : ℕ → Option Request
 
-abbrev pub seen : List Cell → Sight
+abbrev pub seen : List Cell → CellView
 seen cs = record { holds = held cs; requests = requested cs }
 
 -- how many cells there are: a message counts for none
@@ -201,12 +201,12 @@ word_field (c ∷ cs) n w = cond (c.object.name == n) (at (pos 0) c.words w) (wo
 -- the cell of that name has another word there
 abbrev pub set_word_field : ℕ → ℕ → ℤ → List Cell → List Cell
 set_word_field n w v [] = []
-set_word_field n w v (c ∷ cs) = record c { words = cond (c.object.name == n) (put_at (pos 0) c.words w v) c.words } ∷ set_word_field n w v cs
+set_word_field n w v (c ∷ cs) = record c { words = cond (c.object.name == n) (set_extending (pos 0) c.words w v) c.words } ∷ set_word_field n w v cs
 
 -- names and places stand once
-abbrev pub Tidy : List Cell → Type 0
-Tidy [] = Unit {0}
-Tidy (c ∷ cs) = (held cs c.owner ≡ None) × (named cs c.object.name ≡ None) × Tidy cs
+abbrev pub NoDuplicates : List Cell → Type 0
+NoDuplicates [] = Unit {0}
+NoDuplicates (c ∷ cs) = (held cs c.owner ≡ None) × (named cs c.object.name ≡ None) × NoDuplicates cs
 
 -- the cell of that name has another request
 abbrev pub set_request : ℕ → Option Request → List Cell → List Cell

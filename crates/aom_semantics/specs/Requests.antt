@@ -9,14 +9,14 @@ use Rattle.aom_image.specs.declared.class.Provider.{Provider}
 use Rattle.aom_image.specs.declared.class.Provider.TheVariants.{Own, Timer as A_timer, Native, Token as A_token}
 use Rattle.aom_image.specs.declared.method.Thing.{Thing}
 use Rattle.aom_image.specs.declared.method.Thing.TheVariants.{Object as An_object_of, Message}
-use Rattle.aom_classes.specs.Roles.{role_of}
+use Rattle.aom_link_conditions.specs.Roles.{role_of}
 use Rattle.aom_image.specs.declared.method.Role.{Role}
 use Rattle.aom_image.specs.declared.method.Role.TheVariants.{Cancel as Cancels}
 use Rattle.aom_roles.specs.Roles.{is_cancel}
 use Rattle.aom_roles.specs.Kinds.{is_active_kind, is_issuing_kind, is_listed_kind}
 use Rattle.aom_roles.specs.Shapes.{kind_of}
 use Rattle.aom_semantics.specs.Places.{Cell, Phase, Idle, Issued, Active, Cancelling, Aborted, Request, Timer, requested, set_request}
-use Rattle.aom_semantics.specs.State.{AddedWrong, AlreadyActive, CancelHang, Frame, Home, Static, AtRoot, Inside, Need, RequestOverlap, State, Task, WrongKind}
+use Rattle.aom_semantics.specs.State.{AddedWrong, AlreadyActive, CancelHang, Frame, Receiver, Static, AtRoot, Inside, Need, RequestOverlap, State, Task, WrongKind}
 use Rattle.aom_semantics.specs.Words.{needs_word, needs_written}
 
 -- the kind of class of a thing
@@ -25,22 +25,22 @@ thing_kind p (An_object_of c) = kind_of p (Some c)
 thing_kind p Message = kind_of p None
 
 -- of what a frame works on
-abbrev pub home_kind : Image → Home → Option ClassKind
-home_kind p Static = None
-home_kind p AtRoot = None
-home_kind p (Inside o from) = thing_kind p o.thing
+abbrev pub receiver_kind : Image → Receiver → Option ClassKind
+receiver_kind p Static = None
+receiver_kind p AtRoot = None
+receiver_kind p (Inside o from) = thing_kind p o.thing
 
 -- its request
-abbrev pub own_request : List Cell → Home → Option Request
+abbrev pub own_request : List Cell → Receiver → Option Request
 own_request cs Static = None
 own_request cs AtRoot = None
 own_request cs (Inside o from) = requested cs o.name
 
 -- the cells with another request of it
-abbrev pub rerequested : List Cell → Home → Option Request → List Cell
-rerequested cs Static r = cs
-rerequested cs AtRoot r = cs
-rerequested cs (Inside o from) r = set_request o.name r cs
+abbrev pub request_updated : List Cell → Receiver → Option Request → List Cell
+request_updated cs Static r = cs
+request_updated cs AtRoot r = cs
+request_updated cs (Inside o from) r = set_request o.name r cs
 
 -- ---- codes
 
@@ -213,28 +213,28 @@ cancel_method p fr = cancel_of p fr.view
 
 -- the cells as it begins
 abbrev pub begun_cells : Frame → List Cell → List Cell
-begun_cells fr cs = rerequested cs fr.home (on_request cancelling (own_request cs fr.home))
+begun_cells fr cs = request_updated cs fr.receiver (on_request cancelling (own_request cs fr.receiver))
 
 -- the cells once the method of a frame is over
 abbrev pub ended_cells : Image → Frame → List Cell → List Cell
-ended_cells p fr cs = cond (is_cancel (method_role p fr.method)) (rerequested cs fr.home (on_request cancelled (own_request cs fr.home))) cs
+ended_cells p fr cs = cond (is_cancel (method_role p fr.method)) (request_updated cs fr.receiver (on_request cancelled (own_request cs fr.receiver))) cs
 
 -- ---- the needs
 
 module _ (p : Image) (fr : Frame) (ts : List Task) (s : State) where
   -- what the frame works on
   abbrev pub own : Option Request
-  own = own_request s.cells fr.home
+  own = own_request s.cells fr.receiver
 
   abbrev pub needs_active : Need
-  needs_active = (is_active_kind (home_kind p fr.home), WrongKind)
+  needs_active = (is_active_kind (receiver_kind p fr.receiver), WrongKind)
 
   -- its requests are none that tokens complete
   abbrev pub needs_issuing : Need
-  needs_issuing = (is_issuing_kind (home_kind p fr.home), WrongKind)
+  needs_issuing = (is_issuing_kind (receiver_kind p fr.receiver), WrongKind)
 
   abbrev pub needs_listed : Need
-  needs_listed = (is_listed_kind (home_kind p fr.home), WrongKind)
+  needs_listed = (is_listed_kind (receiver_kind p fr.receiver), WrongKind)
 
   -- it is enlisted
   abbrev pub needs_added : Need

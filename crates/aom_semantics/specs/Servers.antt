@@ -54,8 +54,8 @@ is_connect (Message_of c m) = false
 is_connect (Close_of c) = false
 
 -- how many sessions it has or is asked for
-abbrev pub seats_taken : Service → ℕ
-seats_taken v = length v.sessions + length (filter is_connect v.queue)
+abbrev pub sessions_in_use : Service → ℕ
+sessions_in_use v = length v.sessions + length (filter is_connect v.queue)
 
 -- that is queued last
 abbrev pub asked_last : Asked → Service → Service
@@ -120,14 +120,14 @@ slots_taken c [] = 0
 slots_taken c (x ∷ xs) = cond (holds_slot c x.service.sender) (suc (slots_taken c xs)) (slots_taken c xs)
 
 -- a message of the client has no slot any more
-abbrev pub unslotted : ℕ → Option Sender → Option Sender
-unslotted c None = None
-unslotted c (Some m) = Some (cond (m.client == c) (record m { holds_slot = false }) m)
+abbrev pub slot_released : ℕ → Option Sender → Option Sender
+slot_released c None = None
+slot_released c (Some m) = Some (cond (m.client == c) (record m { holds_slot = false }) m)
 
 -- and its completion is told to nobody
 abbrev pub discarded : ℕ → Option Sender → Option Sender
 discarded c None = None
-discarded c (Some m) = Some (cond (m.client == c) (record m { holds_slot = false; is_told = false }) m)
+discarded c (Some m) = Some (cond (m.client == c) (record m { holds_slot = false; is_reported = false }) m)
 
 -- what the client leaves of a service as it closes or dies, and of all: its messages that wait go
 abbrev pub left_by : ℕ → Service → Service
@@ -138,9 +138,9 @@ withdrawn c [] = []
 withdrawn c (x ∷ xs) = cond (is_queue x.owner && is_from c x.service.sender) (withdrawn c xs) (record x { service = left_by c x.service } ∷ withdrawn c xs)
 
 -- the messages of the client hold no slot any more
-abbrev pub all_unslotted : ℕ → List Cell → List Cell
-all_unslotted c [] = []
-all_unslotted c (x ∷ xs) = record x { service = record x.service { sender = unslotted c x.service.sender } } ∷ all_unslotted c xs
+abbrev pub all_slot_released : ℕ → List Cell → List Cell
+all_slot_released c [] = []
+all_slot_released c (x ∷ xs) = record x { service = record x.service { sender = slot_released c x.service.sender } } ∷ all_slot_released c xs
 
 -- what waits in the queue of that server goes
 abbrev pub is_queue_of : ℕ → Place → Bool

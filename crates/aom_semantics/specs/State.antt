@@ -4,16 +4,16 @@ use Rattle.std.specs.Int.{w32}
 use Rattle.aom_image.specs.declared.method.Thing.{Thing}
 use Rattle.aom_image.specs.declared.method.Thing.TheVariants.{Object as An_object_of, Message}
 use Rattle.aom_clients.specs.declared.client.Client.{Client}
-use Rattle.aom_roles.specs.Tables.{at, put_at}
+use Rattle.aom_roles.specs.Tables.{at, set_extending}
 use Rattle.aom_roles.specs.Things.{Holder, Nobody, Program, Member}
 use Rattle.aom_semantics.specs.Places.{Place, Field, Elsewhere, Root, Object, Cell}
 use Rattle.aom_transcript.specs.declared.line.Ending.{Ending}
 
 -- whose fields a frame works on: nobody's, the root as main's only field, or a cell's, with the place that held it when the frame was made
-pub data Home : Type 0 where
-  Static : Home
-  AtRoot : Home
-  Inside : (this : Object) (from : Place) → Home
+pub data Receiver : Type 0 where
+  Static : Receiver
+  AtRoot : Receiver
+  Inside : (this : Object) (from : Place) → Receiver
 
 pub record Frame : Type 0 where
   pub method : ℕ
@@ -22,14 +22,14 @@ pub record Frame : Type 0 where
   pub words : List (Option ℤ)
   -- how many rounds of each loop are left, the outermost first
   pub counters : List ℕ
-  pub home : Home
+  pub receiver : Receiver
   -- how many items the cleanup stack had as it began
   pub height : ℕ
   -- the class that its object counts as
   pub view : Option ℕ
 
 -- an object, and the place that owns it
-pub record Seat : Type 0 where
+pub record OwnedObject : Type 0 where
   pub object : Object
   pub place : Place
 
@@ -43,7 +43,7 @@ pub data Stage : Type 0 where
   Serves : (session : Object) → Stage
   Service_left : (code : ℤ) → Stage
   -- of a close: the session goes, or is gone
-  Parts : Stage
+  Disconnects : Stage
 
 -- what stands below all else
 pub data Dispatch : Type 0 where
@@ -53,13 +53,13 @@ pub data Dispatch : Type 0 where
   -- the end of a stopped run, which destroys the root
   Of_root : Dispatch
   -- of an object, and its end where its method left with a code
-  Of_object : Seat → Dispatch
-  Object_left : Seat → (code : ℤ) → Dispatch
+  Of_object : OwnedObject → Dispatch
+  Object_left : OwnedObject → (code : ℤ) → Dispatch
   -- its `error` method is asked, and has answered
-  Asks : Seat → Dispatch
-  Answered : Seat → (answer : ℤ) → Dispatch
+  Asks : OwnedObject → Dispatch
+  Answered : OwnedObject → (answer : ℤ) → Dispatch
   -- of a server, for that client; once all is served it is one of an object
-  Of_server : Seat → (client : ℕ) → Stage → Dispatch
+  Of_server : OwnedObject → (client : ℕ) → Stage → Dispatch
 
 -- what is at hand, the innermost first
 pub data Task : Type 0 where
@@ -159,13 +159,13 @@ abbrev pub word : Frame → ℕ → Option ℤ
 word fr i = at None fr.words i
 
 abbrev pub set_word : Frame → ℕ → Option ℤ → Frame
-set_word fr i w = record fr { words = put_at None fr.words i w }
+set_word fr i w = record fr { words = set_extending None fr.words i w }
 
 abbrev pub counter : Frame → ℕ → ℕ
 counter fr i = at 0 fr.counters i
 
 abbrev pub set_counter : Frame → ℕ → ℕ → Frame
-set_counter fr i n = record fr { counters = put_at 0 fr.counters i n }
+set_counter fr i n = record fr { counters = set_extending 0 fr.counters i n }
 
 abbrev pub next : Frame → Frame
 next fr = record fr { place = suc fr.place }
@@ -178,20 +178,20 @@ abbrev pub thing_view : Thing → Option ℕ
 thing_view (An_object_of c) = Some c
 thing_view Message = None
 
-abbrev pub home_view : Home → Option ℕ
-home_view Static = None
-home_view AtRoot = None
-home_view (Inside o from) = thing_view o.thing
+abbrev pub receiver_view : Receiver → Option ℕ
+receiver_view Static = None
+receiver_view AtRoot = None
+receiver_view (Inside o from) = thing_view o.thing
 
 -- a method begins on what counts as that class
-abbrev pub frame_as : ℕ → Home → Option ℕ → ℕ → Frame
-frame_as m home view height = record { method = m; place = 0; words = []; counters = []; home = home; height = height; view = view }
+abbrev pub frame_as : ℕ → Receiver → Option ℕ → ℕ → Frame
+frame_as m receiver view height = record { method = m; place = 0; words = []; counters = []; receiver = receiver; height = height; view = view }
 
-abbrev pub frame_of : ℕ → Home → ℕ → Frame
-frame_of m home height = frame_as m home (home_view home) height
+abbrev pub frame_of : ℕ → Receiver → ℕ → Frame
+frame_of m receiver height = frame_as m receiver (receiver_view receiver) height
 
 -- the place of a field, and whose fields these are
-abbrev pub field_place : Home → ℕ → Place
+abbrev pub field_place : Receiver → ℕ → Place
 field_place Static f = Elsewhere Root
 field_place AtRoot f = Elsewhere Root
 field_place (Inside o from) f = Field o.name f
@@ -200,10 +200,10 @@ abbrev pub thing_holder : Thing → Holder
 thing_holder (An_object_of c) = Member c
 thing_holder Message = Nobody
 
-abbrev pub home_holder : Home → Holder
-home_holder Static = Nobody
-home_holder AtRoot = Program
-home_holder (Inside o from) = thing_holder o.thing
+abbrev pub receiver_holder : Receiver → Holder
+receiver_holder Static = Nobody
+receiver_holder AtRoot = Program
+receiver_holder (Inside o from) = thing_holder o.thing
 
 -- what was at hand is over, and the method below goes on
 abbrev pub resumed : List Task → List Task

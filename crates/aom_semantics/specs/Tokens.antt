@@ -5,10 +5,10 @@ use Rattle.aom_image.specs.declared.method.Thing.{Thing}
 use Rattle.aom_image.specs.declared.method.Thing.TheVariants.{Object as An_object_of, Message}
 use Rattle.aom_roles.specs.Kinds.{is_token_kind}
 use Rattle.aom_semantics.specs.Clients.{count_messages}
-use Rattle.aom_semantics.specs.Requests.{completed_with, home_kind, in_phase, is_idle, needs_added, on_request, own_request, pending, recorded, rerequested}
+use Rattle.aom_semantics.specs.Requests.{completed_with, receiver_kind, in_phase, is_idle, needs_added, on_request, own_request, pending, recorded, request_updated}
 use Rattle.aom_semantics.specs.Natives.{is_owed}
 use Rattle.aom_semantics.specs.Places.{Cell, Issued, Object, Place, Request, Service, Token, held, requested, service_of, unserved}
-use Rattle.aom_semantics.specs.State.{AtRoot, Frame, Home, Inside, Need, Orphan, RequestOverlap, State, Static, Task, WrongKind}
+use Rattle.aom_semantics.specs.State.{AtRoot, Frame, Receiver, Inside, Need, Orphan, RequestOverlap, State, Static, Task, WrongKind}
 use Rattle.aom_semantics.specs.Words.{here}
 
 -- ---- a token is handed out
@@ -39,10 +39,10 @@ class_of_thing (An_object_of c) = c
 class_of_thing Message = 0
 
 -- the class of what a frame works on
-abbrev pub home_class : Home → ℕ
-home_class Static = 0
-home_class AtRoot = 0
-home_class (Inside o from) = class_of_thing o.thing
+abbrev pub receiver_class : Receiver → ℕ
+receiver_class Static = 0
+receiver_class AtRoot = 0
+receiver_class (Inside o from) = class_of_thing o.thing
 
 -- what clients have at a token: nothing, and it tells whose it is
 abbrev pub handed_out : Token → Service
@@ -53,13 +53,13 @@ abbrev pub with_token : ℕ → Token → Place → List Cell → List Cell
 with_token name token owner cs = record { object = record { name = name; thing = Message }; words = []; request = None; session = false; service = handed_out token; owner = owner } ∷ cs
 
 -- what a frame works on makes a request, and its token is there under that name
-abbrev pub handed_cells : ℕ → Home → Place → List Cell → List Cell
-handed_cells name home owner cs =
-    with_token name (record { class = home_class home; order = next_token cs }) owner (rerequested cs home (on_request (promised (next_token cs)) (own_request cs home)))
+abbrev pub handed_cells : ℕ → Receiver → Place → List Cell → List Cell
+handed_cells name receiver owner cs =
+    with_token name (record { class = receiver_class receiver; order = next_token cs }) owner (request_updated cs receiver (on_request (promised (next_token cs)) (own_request cs receiver)))
 
 -- no message place is free
-abbrev pub is_crowded : Image → List Cell → Bool
-is_crowded p cs = nat_le p.header.messages (count_messages cs)
+abbrev pub is_message_store_full : Image → List Cell → Bool
+is_message_store_full p cs = nat_le p.header.messages (count_messages cs)
 
 -- the code of a request for which no place is free, KErrServerBusy
 abbrev pub busy : ℤ
@@ -107,7 +107,7 @@ is_redeemable (Some order) (c ∷ cs) = cond (awaits order c.request) (is_owed c
 
 module _ (p : Image) (fr : Frame) (ts : List Task) (s : State) where
   abbrev pub needs_token : Need
-  needs_token = (is_token_kind (home_kind p fr.home), WrongKind)
+  needs_token = (is_token_kind (receiver_kind p fr.receiver), WrongKind)
 
   -- a free register, an object that hands tokens, and no request that is made
   abbrev pub needs_hand : ℕ → List Need
@@ -115,7 +115,7 @@ module _ (p : Image) (fr : Frame) (ts : List Task) (s : State) where
       (is_none (held s.cells (here fr ts s a)), Orphan)
       ∷ needs_token
       ∷ needs_added p fr ts s
-      ∷ (in_phase is_idle (own_request s.cells fr.home), RequestOverlap)
+      ∷ (in_phase is_idle (own_request s.cells fr.receiver), RequestOverlap)
       ∷ []
 
 -- ---- what is kept of them
@@ -123,4 +123,4 @@ module _ (p : Image) (fr : Frame) (ts : List Task) (s : State) where
 -- no two requests wait for one order, and no two tokens have one
 pub record TokensApart (cs : List Cell) : Type 0 where
   pub waits : (n m k : ℕ) → awaited (requested cs n) ≡ Some k → awaited (requested cs m) ≡ Some k → n ≡ m
-  pub told : (n m k : ℕ) → order_in (service_of cs n).token ≡ Some k → order_in (service_of cs m).token ≡ Some k → n ≡ m
+  pub reported : (n m k : ℕ) → order_in (service_of cs n).token ≡ Some k → order_in (service_of cs m).token ≡ Some k → n ≡ m

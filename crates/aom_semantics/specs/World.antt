@@ -5,19 +5,19 @@ use Rattle.aom_image.specs.Image.{Image}
 use Rattle.aom_image.specs.declared.method.Role.TheVariants.{Run as Handles, Accept as Accepts_role, Service as Attends}
 use Rattle.aom_image.specs.declared.method.Thing.{Thing}
 use Rattle.aom_image.specs.declared.method.Thing.TheVariants.{Object as An_object_of, Message}
-use Rattle.aom_classes.specs.Roles.{main_of}
+use Rattle.aom_link_conditions.specs.Roles.{main_of}
 use Rattle.aom_semantics.specs.Clients.{client_count, commanded, refusal}
 use Rattle.aom_semantics.specs.Lines.{refusal_line, serve_line}
 use Rattle.aom_semantics.specs.Servers.{is_asked_for, is_server, reserved, taken_first}
 use Rattle.aom_semantics.specs.Destruction.{begun}
 use Rattle.aom_semantics.specs.Requests.{completed_with, is_active, is_idle, is_unsettled, on_request, part_of, pending, recorded, status_of, taken_up, timed_out}
-use Rattle.aom_semantics.specs.Natives.{all_bereaved, is_dead, is_outstanding_at}
+use Rattle.aom_semantics.specs.Natives.{all_detached, is_dead, is_outstanding_at}
 use Rattle.aom_semantics.specs.Places.{Cell, Object, Request, Timer, named, requested, set_request, Asked, Connect_of, Message_of, Close_of, Elsewhere, Session, In_service, Queued, Going, held, moved, service_of, word_field}
-use Rattle.aom_semantics.specs.State.{AtRoot, Inside, frame_of, Seat, Task, Run, Trapped, Dispatched, Of_main, Of_object, A_mark, State, Choice, Outcome, Goes, IsStuck, CompletedTwice, NullOrDead, Stray, WrongKind, guarded, Frame, Stage, Accepts, Serves, Parts, Of_server, FitsWord}
+use Rattle.aom_semantics.specs.State.{AtRoot, Inside, frame_of, OwnedObject, Task, Run, Trapped, Dispatched, Of_main, Of_object, A_mark, State, Choice, Outcome, Goes, IsStuck, CompletedTwice, NullOrDead, Stray, WrongKind, guarded, Frame, Stage, Accepts, Serves, Disconnects, Of_server, FitsWord}
 use Rattle.aom_semantics.specs.Moves.{step, written, IsOpen}
 use Rattle.aom_transcript.specs.declared.event.Event.{Event}
 use Rattle.aom_transcript.specs.declared.event.ClientCommand.{ClientCommand}
-use Rattle.aom_transcript.specs.declared.event.Event.TheVariants.{Client, Kill, Tell}
+use Rattle.aom_transcript.specs.declared.event.Event.TheVariants.{Client, Kill, Report}
 use Rattle.aom_transcript.specs.declared.event.TimedEvent.{TimedEvent}
 use Rattle.aom_transcript.specs.declared.line.Line.{Line}
 use Rattle.aom_transcript.specs.declared.line.Line.TheVariants.{Killed, Run as Run_line}
@@ -119,7 +119,7 @@ is_ready r = is_active r.phase && not (int_eq r.status pending)
 
 -- an object that is ready
 pub record Candidate : Type 0 where
-  pub seat : Seat
+  pub owned_object : OwnedObject
   pub request : Request
 
 -- of a higher priority, or of the same and enlisted earlier
@@ -136,7 +136,7 @@ goes_now c r = is_ready r || is_asked_for c
 
 abbrev pub among_ready : Cell → Option Request → Option Candidate → Option Candidate
 among_ready c None others = others
-among_ready c (Some r) others = cond (goes_now c r) (Some (before_others (record { seat = record { object = c.object; place = c.owner }; request = r }) others)) others
+among_ready c (Some r) others = cond (goes_now c r) (Some (before_others (record { owned_object = record { object = c.object; place = c.owner }; request = r }) others)) others
 
 -- the ready object that goes before all others
 abbrev pub first_ready : List Cell → Option Candidate
@@ -198,13 +198,13 @@ cell_at (c ∷ cs) (suc k) = cell_at cs k
 -- ---- turns
 
 -- what a turn hears: what the native that is polled completes, and a name for what the turn makes
-pub record Heard : Type 0 where
+pub record Observed : Type 0 where
   pub completion : Option Completion
   pub name : ℕ
 
 -- nothing is completed
-abbrev pub nothing_heard : Heard
-nothing_heard = record { completion = None; name = 0 }
+abbrev pub nothing_observed : Observed
+nothing_observed = record { completion = None; name = 0 }
 
 -- what a turn does
 pub data Turning : Type 0 where
@@ -213,15 +213,15 @@ pub data Turning : Type 0 where
   -- the timer of an object completes its request
   Completes : Object → Turning
   -- an event changes nothing here: it is for a native, kills none, or is of no client
-  Hears : Turning
+  Observes : Turning
   -- an event kills a native
   Kills : (native : ℕ) → Turning
   -- a native is polled, and completes that, or nothing
   Polls : (native : ℕ) → Option Completion → Turning
   -- a client's command, with a name for what it sends
-  Obeys : (client : ℕ) → ClientCommand → (name : ℕ) → Turning
+  Executes : (client : ℕ) → ClientCommand → (name : ℕ) → Turning
   -- an object or a server is dispatched
-  Picks : Seat → Turning
+  Picks : OwnedObject → Turning
   -- a signal, and no object is ready
   Strays : Turning
   -- time passes until a timer is due or an event comes
@@ -255,7 +255,7 @@ passes (Some time) = Passes time
 -- all natives are polled
 abbrev pub picks : Bool → Option Candidate → Option ℕ → Turning
 picks true None next = Strays
-picks true (Some x) next = Picks x.seat
+picks true (Some x) next = Picks x.owned_object
 picks false ready next = passes next
 
 -- all events that are due are delivered
@@ -265,10 +265,10 @@ polls (Some n) answer after = Polls n answer
 
 -- with a name for a message that is sent
 abbrev pub delivers : Environment → ℕ → State → Event → Turning
-delivers outside name s (Tell n word) = Hears
-delivers outside name s (Kill n) = cond (lives outside s n) (Kills n) Hears
+delivers outside name s (Report n word) = Observes
+delivers outside name s (Kill n) = cond (lives outside s n) (Kills n) Observes
 -- a number that is no client's is heard alone
-delivers outside name s (Client c command) = cond (nat_lt c client_count) (Obeys c command name) Hears
+delivers outside name s (Client c command) = cond (nat_lt c client_count) (Executes c command name) Observes
 
 -- all timers that are due have completed their requests
 abbrev pub by_event : Environment → ℕ → State → Option TimedEvent → Turning → Turning
@@ -280,12 +280,12 @@ by_timer s None after = after
 by_timer s (Some x) after = cond (nat_le x.timer.due s.rest.clock) (Completes x.object) after
 
 -- timers that are due come first, then events, then each native once, then signals, then time
-abbrev pub turning : Environment → Heard → State → Turning
-turning outside heard s =
+abbrev pub turning : Environment → Observed → State → Turning
+turning outside observed s =
     cond (nat_le outside.limit s.rest.dispatches) Cuts
     (by_timer s (first_due s.cells)
-    (by_event outside heard.name s (next_event outside s)
-    (polls (next_native outside s) heard.completion
+    (by_event outside observed.name s (next_event outside s)
+    (polls (next_native outside s) observed.completion
     (picks (has_signal s.cells) (first_ready s.cells) (next_time outside s)))))
 
 -- a native that is polled completes what is outstanding at it, with a word
@@ -294,9 +294,9 @@ AnswersWell p s (Polls n (Some a)) = (c : Cell) × (cell_at s.cells a.cell ≡ S
 AnswersWell p s _ = Unit {0}
 
 -- a native that is polled completes what is outstanding at it, and the name is free
-pub record HearsWell (p : Image) (outside : Environment) (heard : Heard) (s : State) : Type 0 where
-  pub completion : AnswersWell p s (turning outside heard s)
-  pub name : named s.cells heard.name ≡ None
+pub record ObservesWell (p : Image) (outside : Environment) (observed : Observed) (s : State) : Type 0 where
+  pub completion : AnswersWell p s (turning outside observed s)
+  pub name : named s.cells observed.name ≡ None
 
 abbrev pub ends_as : Ending → State → State
 ends_as ending s = record s { rest = record s.rest { ended = Some ending } }
@@ -306,11 +306,11 @@ abbrev pub with_request : (Request → Request) → Object → List Cell → Lis
 with_request f o cs = set_request o.name (on_request f (requested cs o.name)) cs
 
 -- its method runs under the trap of its dispatch
-abbrev pub run_tasks : ℕ → Seat → ℕ → List Task
+abbrev pub run_tasks : ℕ → OwnedObject → ℕ → List Task
 run_tasks m x height = Run (frame_of m (Inside x.object x.place) height) ∷ Trapped ∷ Dispatched (Of_object x) ∷ []
 
 -- its signal is taken, and it is idle as its dispatch begins, which has taken no step
-abbrev pub dispatched : Option ℕ → Seat → State → Outcome
+abbrev pub dispatched : Option ℕ → OwnedObject → State → Outcome
 dispatched None x s = IsStuck WrongKind
 dispatched (Some m) x s =
     Goes (record s {
@@ -321,12 +321,12 @@ dispatched (Some m) x s =
     })
 
 -- one event more is delivered
-abbrev pub heard_one : State → State
-heard_one s = record s { rest = record s.rest { delivered = suc s.rest.delivered } }
+abbrev pub observed_one : State → State
+observed_one s = record s { rest = record s.rest { delivered = suc s.rest.delivered } }
 
 -- the native is killed
 abbrev pub without_native : Image → ℕ → State → State
-without_native p n s = record s { cells = all_bereaved p n s.cells; killed = s.killed ++ n ∷ [] }
+without_native p n s = record s { cells = all_detached p n s.cells; killed = s.killed ++ n ∷ [] }
 
 -- the natives up to this one are polled
 abbrev pub past_native : ℕ → State → State
@@ -348,10 +348,10 @@ abbrev pub taken_from : ℕ → State → State
 taken_from n s = record s { cells = reserved taken_first n s.cells; rest = record s.rest { steps = 0; polled = 0 } }
 
 -- a method of the server, or of a session with it, runs under the trap of the dispatch
-abbrev pub serving : Seat → ℕ → Stage → Frame → State → State
+abbrev pub serving : OwnedObject → ℕ → Stage → Frame → State → State
 serving x client stage fr s = record s { tasks = Run fr ∷ Trapped ∷ Dispatched (Of_server x client stage) ∷ []; items = A_mark ∷ s.items }
 
-abbrev pub accepting : Option ℕ → Seat → ℕ → State → Outcome
+abbrev pub accepting : Option ℕ → OwnedObject → ℕ → State → Outcome
 accepting None x client s = IsStuck WrongKind
 accepting (Some m) x client s = Goes (serving x client Accepts (frame_of m (Inside x.object x.place) (length (A_mark ∷ s.items))) s)
 
@@ -359,7 +359,7 @@ accepting (Some m) x client s = Goes (serving x client Accepts (frame_of m (Insi
 abbrev pub message_words : List Cell → ℕ → List (Option ℤ)
 message_words cs n = map (λ w. Some (word_field cs n w)) (0 ∷ 1 ∷ 2 ∷ 3 ∷ 4 ∷ [])
 
-abbrev pub attending : Option ℕ → Seat → ℕ → Object → ℕ → State → Outcome
+abbrev pub attending : Option ℕ → OwnedObject → ℕ → Object → ℕ → State → Outcome
 attending None x client o m s = IsStuck WrongKind
 attending (Some method) x client o m s =
     Goes (serving x client (Serves o)
@@ -367,41 +367,41 @@ attending (Some method) x client o m s =
     (record s { cells = moved (Elsewhere (Queued x.object.name m)) (Elsewhere In_service) s.cells }))
 
 -- the message is served by the session of its client
-abbrev pub attended : Image → Seat → ℕ → Option Object → ℕ → State → Outcome
+abbrev pub attended : Image → OwnedObject → ℕ → Option Object → ℕ → State → Outcome
 attended p x client None m s = IsStuck NullOrDead
 attended p x client (Some o) m s = attending (part_of p Attends o.thing) x client o m s
 
 -- the session goes, with no trap
-abbrev pub parting_with : Image → Seat → ℕ → Option Object → State → Outcome
+abbrev pub parting_with : Image → OwnedObject → ℕ → Option Object → State → Outcome
 parting_with p x client None s = IsStuck NullOrDead
 parting_with p x client (Some o) s =
-    let below = Dispatched (Of_server x client Parts) ∷ [] in
+    let below = Dispatched (Of_server x client Disconnects) ∷ [] in
     Goes (record s { cells = moved (Elsewhere (Session x.object.name client)) (Going (length below)) s.cells; tasks = begun p o (length s.items) below })
 
-abbrev pub serves_first : Image → Seat → List Asked → State → Outcome
+abbrev pub serves_first : Image → OwnedObject → List Asked → State → Outcome
 serves_first p x [] s = IsStuck Stray
 serves_first p x (Connect_of c ∷ es) s = accepting (part_of p Accepts_role x.object.thing) x c (taken_from x.object.name s)
 serves_first p x (Message_of c m ∷ es) s = attended p x c (held s.cells (Elsewhere (Session x.object.name c))) m (taken_from x.object.name s)
 serves_first p x (Close_of c ∷ es) s = parting_with p x c (held s.cells (Elsewhere (Session x.object.name c))) (taken_from x.object.name s)
 
 -- an object is dispatched, or a server
-abbrev pub picked : Image → Seat → State → Outcome
+abbrev pub picked : Image → OwnedObject → State → Outcome
 picked p x s = cond (is_server p x.object.thing) (serves_first p x (service_of s.cells x.object.name).queue s) (dispatched (part_of p Handles x.object.thing) x s)
 
 abbrev pub turned : Image → State → Turning → Outcome
 turned p s Cuts = Goes (ends_as Limit s)
 turned p s (Completes o) = Goes (record s { cells = with_request timed_out o s.cells })
-turned p s Hears = Goes (heard_one s)
-turned p s (Kills n) = Goes (without_native p n (heard_one s))
+turned p s Observes = Goes (observed_one s)
+turned p s (Kills n) = Goes (without_native p n (observed_one s))
 turned p s (Polls n answer) = polled p n answer s
-turned p s (Obeys client command name) = Goes (commanded p client (heard_one s) command name)
+turned p s (Executes client command name) = Goes (commanded p client (observed_one s) command name)
 turned p s (Picks x) = picked p x s
 turned p s Strays = IsStuck Stray
 turned p s (Passes time) = Goes (record s { rest = record s.rest { clock = time; polled = 0 } })
 turned p s Waits = Goes (ends_as Waiting s)
 
-abbrev pub turn : Image → Environment → Heard → State → Outcome
-turn p outside heard s = turned p s (turning outside heard s)
+abbrev pub turn : Image → Environment → Observed → State → Outcome
+turn p outside observed s = turned p s (turning outside observed s)
 
 -- the line of a dispatch: its time, the class of its object, and the status with which its request is completed
 abbrev pub run_line : State → Object → List Line
@@ -418,18 +418,18 @@ pick_line p s o = cond (is_server p o.thing) (serve_line s.rest.clock o.thing (s
 abbrev pub written_by : Image → State → Turning → List Line
 written_by p s (Picks x) = pick_line p s x.object
 written_by p s (Kills n) = Killed n ∷ []
-written_by p s (Obeys c command name) = refusal_line c (refusal p c s command)
+written_by p s (Executes c command name) = refusal_line c (refusal p c s command)
 written_by p s _ = []
 
 -- whatever is heard
 abbrev pub written_turn : Image → Environment → State → List Line
-written_turn p outside s = written_by p s (turning outside nothing_heard s)
+written_turn p outside s = written_by p s (turning outside nothing_observed s)
 
 -- the states that a run comes to, with the lines that it has written by then
 pub data Reaches (p : Image) (outside : Environment) (from : State) : List Line → State → Type 0 where
   begins : Reaches p outside from [] from
   moves : {lines : List Line} {s u : State} (c : Choice) → Reaches p outside from lines s → IsBusy s → IsOpen p outside.refused c s → step p c s ≡ Goes u → Reaches p outside from (lines ++ written p s) u
-  turns : {lines : List Line} {s u : State} (heard : Heard) → Reaches p outside from lines s → IsBetween s → HearsWell p outside heard s → turn p outside heard s ≡ Goes u → Reaches p outside from (lines ++ written_turn p outside s) u
+  turns : {lines : List Line} {s u : State} (observed : Observed) → Reaches p outside from lines s → IsBetween s → ObservesWell p outside observed s → turn p outside observed s ≡ Goes u → Reaches p outside from (lines ++ written_turn p outside s) u
 
 -- a run of the image from its boot, and how it ended
 pub record Run_of (p : Image) (outside : Environment) (lines : List Line) (s : State) (ending : Ending) : Type 0 where

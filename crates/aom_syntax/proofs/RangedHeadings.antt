@@ -22,8 +22,8 @@ use Rattle.aom_syntax.specs.Reading.{any_keyword, giving, next, nothing_more, se
 use Rattle.aom_syntax.specs.Operands.{class}
 use Rattle.aom_syntax.specs.Classes.{declared, flag, listed, thing_of}
 use Rattle.aom_syntax.specs.Methods.{accepted, argument_of, flags_of, gives, heading, is_quiet_role, kind_of, not_served, optional_arguments}
-use Rattle.aom_syntax.specs.Methods.{optional_class, optional_gives, optional_over, role, said_over, unsaid_gives}
-use Rattle.aom_syntax.specs.Methods.{usual_gives, usual_words, behind_class}
+use Rattle.aom_syntax.specs.Methods.{optional_class, optional_gives, optional_over, role, said_over, omitted_gives}
+use Rattle.aom_syntax.specs.Methods.{default_gives, default_words, behind_class}
 use Rattle.aom_syntax.specs.declared.keyword.Keyword.{Keyword}
 use Rattle.aom_syntax.specs.declared.keyword.Keyword.TheVariants as k
 use Rattle.aom_syntax.specs.declared.method.Heading.{Heading}
@@ -38,7 +38,7 @@ use Rattle.aom_syntax.proofs.ImageLemmas.{some_given}
 -- ---- what an accept gives
 
 abbrev MayGive : ℕ → Option Gives → Type 0
-MayGive classes usual = IfSome usual (λ g. GivesFits classes g)
+MayGive classes default = IfSome default (λ g. GivesFits classes g)
 
 not_served_fits : (classes : ℕ) (known : Bool) → MayGive classes (not_served known)
 not_served_fits classes x = grind arith
@@ -47,16 +47,16 @@ accepted_fits : (version : Version) (classes natives : ℕ) (known : Bool) (kind
     MayGive classes (accepted known kind)
 accepted_fits version classes natives known x fits = grind (arith, nat_tests, not_served_fits classes known)
 
-usual_fits : (version : Version) (classes natives : ℕ) (known : Bool) (role : Role) (kind : ClassKind) → KindFits version classes natives kind →
-    MayGive classes (usual_gives known role kind)
-usual_fits version classes natives known x kind fits = grind arith
+default_fits : (version : Version) (classes natives : ℕ) (known : Bool) (role : Role) (kind : ClassKind) → KindFits version classes natives kind →
+    MayGive classes (default_gives known role kind)
+default_fits version classes natives known x kind fits = grind arith
 
 -- what is not said is what stands for it
-pub stands_for : (usual : Option Gives) (g : Gives) → unsaid_gives usual ≡ Ok g → usual ≡ Some g
-stands_for usual g is = some_given (λ o. unsaid_gives o ≡ Ok g) usual is (λ e. cc) (λ u same e. same ∙ ap Some (ok_is u g e))
+pub stands_for : (default : Option Gives) (g : Gives) → omitted_gives default ≡ Ok g → default ≡ Some g
+stands_for default g is = some_given (λ o. omitted_gives o ≡ Ok g) default is (λ e. cc) (λ u same e. same ∙ ap Some (ok_is u g e))
 
-unsaid_fits : (classes : ℕ) (usual : Option Gives) (g : Gives) → MayGive classes usual → unsaid_gives usual ≡ Ok g → GivesFits classes g
-unsaid_fits classes usual g fits is = subst (MayGive classes) (stands_for usual g is) fits
+omitted_fits : (classes : ℕ) (default : Option Gives) (g : Gives) → MayGive classes default → omitted_gives default ≡ Ok g → GivesFits classes g
+omitted_fits classes default g fits is = subst (MayGive classes) (stands_for default g is) fits
 
 -- a class among those that were read before
 kind_fits : (version : Version) (classes natives : ℕ) (decls : List ClassDecl) (class : Option ℕ) → All (ClassFits version classes natives) decls
@@ -92,11 +92,11 @@ module _ (scope : Scope) (known : IsKnown scope.is_strict (length scope.classes)
   argument_fits w a is =
       marked_or IsArgument (bytes_eq w (codes "word")) arg.Word (thing_of scope w) (λ t. arg.Own t) a (λ same. tt) (thing_fits scope known w) is
 
-  arguments_within : (usual : ℕ) → usual ≤ 6 → Within AreArguments (optional_arguments scope usual)
-  arguments_within usual few =
-      either AreArguments (λ ws. (took k.Args ws).0) (λ ws. (took k.Args ws).1) (seen (listed 6 (argument_of scope)) word) (giving (replicate usual arg.Word))
+  arguments_within : (default : ℕ) → default ≤ 6 → Within AreArguments (optional_arguments scope default)
+  arguments_within default few =
+      either AreArguments (λ ws. (took k.Args ws).0) (λ ws. (took k.Args ws).1) (seen (listed 6 (argument_of scope)) word) (giving (replicate default arg.Word))
       (seen_within AreArguments (listed 6 (argument_of scope)) word (listed_fits IsArgument 6 (argument_of scope) argument_fits))
-      (giving_within AreArguments _ (record { few = omega (arith, length-replicate usual arg.Word, few); each = All-replicate IsArgument usual arg.Word tt }))
+      (giving_within AreArguments _ (record { few = omega (arith, length-replicate default arg.Word, few); each = All-replicate IsArgument default arg.Word tt }))
 
   gives_within : (key : Keyword) → Within IsGiven (gives scope key)
   gives_within k.Nothing = giving_within IsGiven result.Nothing tt
@@ -111,9 +111,9 @@ module _ (scope : Scope) (known : IsKnown scope.is_strict (length scope.classes)
       next_within IsGiven IsGiven (gives scope key) (λ g. next (nothing_more false) (λ u. giving g)) (gives_within key) (λ g fits.
       after IsGiven (nothing_more false) (λ u. giving g) (λ u. giving_within IsGiven g fits)))
 
-  optional_within : (usual : Option Gives) → MayGive (length scope.classes) usual → Within IsGiven (optional_gives scope usual)
-  optional_within usual fits = either IsGiven (λ ws. (took k.Gives ws).0) (λ ws. (took k.Gives ws).1) _
-      (seen (λ u. unsaid_gives _) (nothing_more true)) said_gives (seen_within IsGiven (λ u. unsaid_gives usual) _ (λ u g is. unsaid_fits _ _ g fits is))
+  optional_within : (default : Option Gives) → MayGive (length scope.classes) default → Within IsGiven (optional_gives scope default)
+  optional_within default fits = either IsGiven (λ ws. (took k.Gives ws).0) (λ ws. (took k.Gives ws).1) _
+      (seen (λ u. omitted_gives _) (nothing_more true)) said_gives (seen_within IsGiven (λ u. omitted_gives default) _ (λ u g is. omitted_fits _ _ g fits is))
 
 -- ---- the statement
 
@@ -142,9 +142,9 @@ module _ (before_version : Version) (natives : ℕ) (scope : Scope) (version : V
       after IsRead (flag k.Quiet) _ (λ quiet.
       next_within AreStates IsRead _ _ (states_within k.In _ (before_below role _ few)) (λ before in_states.
       next_within AreStates IsRead _ _ (states_within k.Out _ (after_below role _ few)) (λ after out_states.
-      next_within (AreArguments scope known) IsRead _ _ (arguments_within scope known (usual_words role) (words_few role)) (λ arguments are_few.
-      next_within (IsGiven scope known) IsRead (optional_gives scope (usual_gives scope.is_strict role (kind_of scope.kinds class))) _
-      (optional_within scope known _ (usual_fits _ _ natives _ role _ (kind_fits _ _ natives scope.kinds class settled.kinds))) (λ gives is_given.
+      next_within (AreArguments scope known) IsRead _ _ (arguments_within scope known (default_words role) (words_few role)) (λ arguments are_few.
+      next_within (IsGiven scope known) IsRead (optional_gives scope (default_gives scope.is_strict role (kind_of scope.kinds class))) _
+      (optional_within scope known _ (default_fits _ _ natives _ role _ (kind_fits _ _ natives scope.kinds class settled.kinds))) (λ gives is_given.
       giving_within _ (record { class = class; over = over; role = role; flags = flags_of _ _; before = before; after = after; arguments = arguments; gives = gives }) (record {
         declared = below;
         heading = record {

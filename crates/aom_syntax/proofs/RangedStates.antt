@@ -6,8 +6,8 @@ use Rattle.aom_image.specs.declared.class.ClassKind.{ClassKind}
 use Rattle.aom_image.specs.declared.method.Role.{Role}
 use Rattle.aom_image.specs.declared.method.States.{States}
 use Rattle.aom_syntax.specs.Reading.{giving, seen, took, word}
-use Rattle.aom_syntax.specs.Methods.{all_read, all_states, cut_letter, flags_of, letters_of, optional_states, some_of, states_of, usual_after, usual_before}
-use Rattle.aom_syntax.specs.Methods.{usual_words}
+use Rattle.aom_syntax.specs.Methods.{all_read, all_states, cut_letter, flags_of, letters_of, optional_states, some_of, states_of, default_after, default_before}
+use Rattle.aom_syntax.specs.Methods.{default_words}
 use Rattle.aom_syntax.specs.declared.keyword.Keyword.{Keyword}
 use Rattle.aom_syntax.proofs.Within.{Within, either, giving_within, ok_is, passed, seen_within}
 
@@ -32,9 +32,9 @@ read_below p s below is = subst AreStates (ok_is (record { 0 = p.0 }) s (passed 
 states_below : (w : List ℕ) (s : States) → states_of w ≡ Ok s → AreStates s
 states_below w s is = grind (arith, nat_tests, ok_is, read_below, letters_below w)
 
-pub states_within : (key : Keyword) (usual : ℕ) → usual < 64 → Within AreStates (optional_states key usual)
-states_within key usual below = either AreStates (λ ws. (took key ws).0) (λ ws. (took key ws).1) (seen states_of word) (giving (record { 0 = usual }))
-    (seen_within AreStates states_of word states_below) (giving_within AreStates (record { 0 = usual }) below)
+pub states_within : (key : Keyword) (default : ℕ) → default < 64 → Within AreStates (optional_states key default)
+states_within key default below = either AreStates (λ ws. (took key ws).0) (λ ws. (took key ws).1) (seen states_of word) (giving (record { 0 = default }))
+    (seen_within AreStates states_of word states_below) (giving_within AreStates (record { 0 = default }) below)
 
 -- ---- sets that are not said
 
@@ -44,10 +44,10 @@ all_few x = grind arith
 some_most : (states all : ℕ) → some_of states all ≤ states
 some_most states all = grind (arith, nat_tests)
 
-pub before_below : (role : Role) (all : ℕ) → all ≤ 11 → usual_before role all < 64
+pub before_below : (role : Role) (all : ℕ) → all ≤ 11 → default_before role all < 64
 before_below x all few = grind (arith, nat_tests, some_most 1 all)
 
-pub after_below : (role : Role) (all : ℕ) → all ≤ 11 → usual_after role all < 64
+pub after_below : (role : Role) (all : ℕ) → all ≤ 11 → default_after role all < 64
 after_below x all few = grind (arith, nat_tests, some_most 3 all)
 
 -- ---- flags and words
@@ -55,5 +55,5 @@ after_below x all few = grind (arith, nat_tests, some_most 3 all)
 pub flags_below : (leaves quiet : Bool) → (flags_of leaves quiet).0 < 4
 flags_below x y = grind arith
 
-pub words_few : (role : Role) → usual_words role ≤ 6
+pub words_few : (role : Role) → default_words role ≤ 6
 words_few x = grind arith

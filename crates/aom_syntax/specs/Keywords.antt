@@ -111,5 +111,5 @@ abbrev pub keyword_of : List ℕ → Option Keyword
 keyword_of word = find (λ k. bytes_eq (keyword_text k) word) keywords
 
 -- where a word of the language is expected, another one has the wrong shape, and any other word is unknown
-unfoldable pub strange : List ℕ → AsmFaultKind
-strange word = if is_some (keyword_of word) || is_some (mnemonic_of word) then BadShape else UnknownWord
+unfoldable pub unexpected_word : List ℕ → AsmFaultKind
+unexpected_word word = if is_some (keyword_of word) || is_some (mnemonic_of word) then BadShape else UnknownWord

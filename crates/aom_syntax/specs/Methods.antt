@@ -17,7 +17,7 @@ use Rattle.aom_image.specs.declared.method.States.{States}
 use Rattle.aom_image.specs.declared.method.MethodFlags.{MethodFlags}
 use Rattle.aom_instructions.specs.declared.instr.Instr.{Instr}
 use Rattle.aom_syntax.specs.Reading.{◌>>=◌, Reading, next, seen, giving, failing, word, as_name, took, any_keyword, nothing_more}
-use Rattle.aom_syntax.specs.Keywords.{strange}
+use Rattle.aom_syntax.specs.Keywords.{unexpected_word}
 use Rattle.aom_instructions.specs.Mnemonics.{is_in, mnemonic_of}
 use Rattle.aom_instructions.specs.declared.version.Version.{Version}
 use Rattle.aom_instructions.specs.declared.version.Version.TheVariants as versions
@@ -79,39 +79,39 @@ abbrev pub some_of : ℕ → ℕ → ℕ
 some_of states all = if all == 0 then 0 else states
 
 -- the states in which a method may begin, by its role and all states of its class
-abbrev pub usual_before : Role → ℕ → ℕ
-usual_before roles.Do all = all
-usual_before roles.Construct all = some_of 1 all
-usual_before roles.Destruct all = all
-usual_before roles.Run all = 2
-usual_before roles.Cancel all = 16
-usual_before roles.Error all = 10
-usual_before roles.Accept all = 2
-usual_before _ all = 0
+abbrev pub default_before : Role → ℕ → ℕ
+default_before roles.Do all = all
+default_before roles.Construct all = some_of 1 all
+default_before roles.Destruct all = all
+default_before roles.Run all = 2
+default_before roles.Cancel all = 16
+default_before roles.Error all = 10
+default_before roles.Accept all = 2
+default_before _ all = 0
 
 -- the states in which it may end
-abbrev pub usual_after : Role → ℕ → ℕ
-usual_after roles.Do all = all
-usual_after roles.Construct all = all
-usual_after roles.Destruct all = some_of 3 all
-usual_after roles.Run all = 11
-usual_after roles.Cancel all = 32
-usual_after roles.Error all = 11
-usual_after roles.Accept all = 3
-usual_after _ all = 0
+abbrev pub default_after : Role → ℕ → ℕ
+default_after roles.Do all = all
+default_after roles.Construct all = all
+default_after roles.Destruct all = some_of 3 all
+default_after roles.Run all = 11
+default_after roles.Cancel all = 32
+default_after roles.Error all = 11
+default_after roles.Accept all = 3
+default_after _ all = 0
 
 -- how many words it takes
-abbrev pub usual_words : Role → ℕ
-usual_words roles.Error = 1
-usual_words roles.Service = 5
-usual_words roles.Undo = 1
-usual_words _ = 0
+abbrev pub default_words : Role → ℕ
+default_words roles.Error = 1
+default_words roles.Service = 5
+default_words roles.Undo = 1
+default_words _ = 0
 
 -- what it gives, if anything stands for it
-abbrev pub usual_gives : (known : Bool) → Role → ClassKind → Option Gives
-usual_gives known roles.Error kind = Some result.Word
-usual_gives known roles.Accept kind = accepted known kind
-usual_gives known _ kind = Some result.Nothing
+abbrev pub default_gives : (known : Bool) → Role → ClassKind → Option Gives
+default_gives known roles.Error kind = Some result.Word
+default_gives known roles.Accept kind = accepted known kind
+default_gives known _ kind = Some result.Nothing
 
 -- whether it is quiet, said or not
 abbrev pub is_quiet_role : Role → Bool
@@ -146,7 +146,7 @@ states_of w = if bytes_eq w (codes "-") then Ok (record { 0 = 0 }) else all_read
 
 -- a set behind its keyword, and else the usual one
 abbrev pub optional_states : Keyword → ℕ → Reading States
-optional_states key usual ws = if (took key ws).0 then seen states_of word (took key ws).1 else Ok (record { 0 = usual }, (took key ws).1)
+optional_states key default ws = if (took key ws).0 then seen states_of word (took key ws).1 else Ok (record { 0 = default }, (took key ws).1)
 
 -- ---- the statement
 
@@ -166,7 +166,7 @@ abbrev pub argument_of : Scope → List ℕ → Result Argument AsmFaultKind
 argument_of scope w = if bytes_eq w (codes "word") then Ok arg.Word else (thing_of scope w >>= λ t. Ok (arg.Own t))
 
 abbrev pub optional_arguments : Scope → ℕ → Reading (List Argument)
-optional_arguments scope usual ws = if (took k.Args ws).0 then seen (listed 6 (argument_of scope)) word (took k.Args ws).1 else Ok (replicate usual arg.Word, (took k.Args ws).1)
+optional_arguments scope default ws = if (took k.Args ws).0 then seen (listed 6 (argument_of scope)) word (took k.Args ws).1 else Ok (replicate default arg.Word, (took k.Args ws).1)
 
 -- a result, by the keyword before it
 abbrev pub gives : Scope → Keyword → Reading Gives
@@ -178,15 +178,15 @@ gives scope k.Left = next (class scope) (λ c. giving (result.Left c))
 gives scope key = failing BadShape
 
 -- what stands for a result that is missing
-abbrev pub unsaid_gives : Option Gives → Result Gives AsmFaultKind
-unsaid_gives None = Err BadShape
-unsaid_gives (Some g) = Ok g
+abbrev pub omitted_gives : Option Gives → Result Gives AsmFaultKind
+omitted_gives None = Err BadShape
+omitted_gives (Some g) = Ok g
 
 -- the end of the statement
 abbrev pub optional_gives : Scope → Option Gives → Reading Gives
-optional_gives scope usual ws =
+optional_gives scope default ws =
     if (took k.Gives ws).0 then next any_keyword (λ key. next (gives scope key) (λ g. next (nothing_more false) (λ u. giving g))) (took k.Gives ws).1
-    else seen (λ u. unsaid_gives usual) (nothing_more true) (took k.Gives ws).1
+    else seen (λ u. omitted_gives default) (nothing_more true) (took k.Gives ws).1
 
 -- the flags of a method
 abbrev pub flags_of : Bool → Bool → MethodFlags
@@ -195,10 +195,10 @@ flags_of leaves quiet = record { 0 = (if leaves then 1 else 0) + (if quiet then 
 -- what a method promises: its states, its arguments and its result
 abbrev pub promised : Scope → Role → Option ℕ → Option ℕ → Bool → Bool → Reading Heading
 promised scope role class over leaves quiet =
-    next (optional_states k.In (usual_before role (all_states (kind_of scope.kinds class)))) (λ before.
-    next (optional_states k.Out (usual_after role (all_states (kind_of scope.kinds class)))) (λ after.
-    next (optional_arguments scope (usual_words role)) (λ arguments.
-    next (optional_gives scope (usual_gives scope.is_strict role (kind_of scope.kinds class))) (λ gives.
+    next (optional_states k.In (default_before role (all_states (kind_of scope.kinds class)))) (λ before.
+    next (optional_states k.Out (default_after role (all_states (kind_of scope.kinds class)))) (λ after.
+    next (optional_arguments scope (default_words role)) (λ arguments.
+    next (optional_gives scope (default_gives scope.is_strict role (kind_of scope.kinds class))) (λ gives.
     giving (record { class = class; over = over; role = role; flags = flags_of leaves (quiet || is_quiet_role role); before = before; after = after; arguments = arguments; gives = gives })))))
 
 -- what stands behind its class and what it overrides
@@ -218,7 +218,7 @@ label_of w = if slice_index_or w (length w - 1) 0 == 58 then Some (take (length 
 
 -- the mnemonic that a word is, of which the version has the instruction
 abbrev pub known_mnemonic : Version → List ℕ → Option Mnemonic → Result Mnemonic AsmFaultKind
-known_mnemonic version w None = Err (strange w)
+known_mnemonic version w None = Err (unexpected_word w)
 known_mnemonic version w (Some m) = if is_in version m then Ok m else Err BadShape
 
 abbrev pub named_mnemonic : Version → List ℕ → Result Mnemonic AsmFaultKind

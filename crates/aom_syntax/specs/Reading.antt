@@ -8,7 +8,7 @@ use Rattle.aom_text.specs.Numbers.{number_of, number_within}
 use Rattle.aom_text.specs.declared.fault.AsmFaultKind.{AsmFaultKind}
 use Rattle.aom_text.specs.declared.fault.AsmFaultKind.TheVariants.{NotAscii, BadNumber, BadShape, LimitPassed, OutOfMemory}
 use Rattle.aom_syntax.specs.declared.keyword.Keyword.{Keyword}
-use Rattle.aom_syntax.specs.Keywords.{keyword_text, keyword_of, strange}
+use Rattle.aom_syntax.specs.Keywords.{keyword_text, keyword_of, unexpected_word}
 
 infixl 10 ◌>>=◌
 abbrev pub ◌>>=◌ : {A B : Type 0} → Result A AsmFaultKind → (A → Result B AsmFaultKind) → Result B AsmFaultKind
@@ -61,14 +61,14 @@ took key (w ∷ ws) = if bytes_eq w (keyword_text key) then (true, ws) else (fal
 
 -- the word that has to stand here
 abbrev pub exactly : Keyword → List ℕ → Result (Unit {0}) AsmFaultKind
-exactly key w = if bytes_eq w (keyword_text key) then Ok tt else Err (strange w)
+exactly key w = if bytes_eq w (keyword_text key) then Ok tt else Err (unexpected_word w)
 
 abbrev pub keyword : Keyword → Reading (Unit {0})
 keyword key = seen (exactly key) word
 
 -- a word of the language
 abbrev pub known : List ℕ → Option Keyword → Result Keyword AsmFaultKind
-known w None = Err (strange w)
+known w None = Err (unexpected_word w)
 known w (Some k) = Ok k
 
 abbrev pub any_keyword : Reading Keyword
@@ -77,7 +77,7 @@ any_keyword = seen (λ w. known w (keyword_of w)) word
 -- where words of the language may follow, a left-over word is judged as one
 abbrev pub nothing_more : Bool → Reading (Unit {0})
 nothing_more expecting [] = Ok (tt, [])
-nothing_more expecting (w ∷ ws) = word (w ∷ ws) >>= λ x. if expecting then Err (strange w) else Err BadShape
+nothing_more expecting (w ∷ ws) = word (w ∷ ws) >>= λ x. if expecting then Err (unexpected_word w) else Err BadShape
 
 -- ---- numbers
 

@@ -3,7 +3,7 @@ ghost use Rattle.std.specs.Prelude.{◌≡◌, option_map};
 ghost use Rattle.aom_syntax.specs.Reading.{Reads, seen};
 ghost use Rattle.aom_syntax.specs.Methods.{label_of, named_mnemonic, check_label, after_label, instruction};
 
-use crate::keyword::strange;
+use crate::keyword::unexpected_word;
 use crate::{NameList, Scope, WordReader};
 use aom_image::{Instr, Mnemonic, Version};
 use aom_text::{AsmFaultKind, is_name};
@@ -25,7 +25,7 @@ fn mnemonic_of(word: &[u8], version: Version) -> Result<Mnemonic, AsmFaultKind>
     match Mnemonic::of(word) {
         Some(mnemonic) if mnemonic.is_in(version) => Ok(mnemonic),
         Some(_) => Err(AsmFaultKind::BadShape),
-        None => Err(strange(word)),
+        None => Err(unexpected_word(word)),
     }
 }
 

@@ -2,7 +2,7 @@
 ghost use Rattle.std.specs.Prelude.{◌≡◌, is_some, ◌||◌};
 ghost use Rattle.std.specs.List.{find};
 ghost use Rattle.std.specs.Str.{bytes_eq};
-ghost use Rattle.aom_syntax.specs.Keywords.{keyword_text, keyword_of, strange};
+ghost use Rattle.aom_syntax.specs.Keywords.{keyword_text, keyword_of, unexpected_word};
 
 use aom_image::Mnemonic;
 use aom_text::AsmFaultKind;
@@ -168,9 +168,9 @@ impl Keyword {
 }
 
 /// The fault of a word that stands where another word of the language is expected.
-#[tactic(auto, unfolding(crate::specs::Keywords::strange))]
-pub fn strange(word: &[u8]) -> AsmFaultKind
-    ensures { result ≡ strange word.now }
+#[tactic(auto, unfolding(crate::specs::Keywords::unexpected_word))]
+pub fn unexpected_word(word: &[u8]) -> AsmFaultKind
+    ensures { result ≡ unexpected_word word.now }
 {
     if Keyword::of(word).is_some() || Mnemonic::of(word).is_some() {
         AsmFaultKind::BadShape

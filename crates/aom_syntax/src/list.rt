@@ -4,7 +4,7 @@ ghost use Rattle.aom_text.specs.declared.fault.AsmFaultKind.{AsmFaultKind as Kin
 ghost use Rattle.aom_syntax.specs.Classes.{listed, thing_of};
 ghost use Rattle.aom_syntax.specs.Methods.{argument_of};
 ghost use Rattle.aom_syntax.specs.Reading.{ReadsOrNoMemory};
-ghost use Rattle.aom_syntax.specs.declared.scope.Scope.{Scope as Told};
+ghost use Rattle.aom_syntax.specs.declared.scope.Scope.{Scope as Reported};
 
 use crate::Scope;
 use crate::class::{split_element, thing_of};
@@ -16,7 +16,7 @@ use std::alloc::Global;
 /// What may stand in a list.
 pub trait ReadElement: Copy {
     /// What a word says.
-    ghost said: { Told → List ℕ → Result Self Kind };
+    ghost said: { Reported → List ℕ → Result Self Kind };
 
     fn read(word: &[u8], scope: &Scope) -> Result<Self, AsmFaultKind>
         ensures { result ≡ said scope.now word.now };

@@ -2,7 +2,7 @@
 ghost use Rattle.std.specs.Prelude.{◌≡◌, ◌≤◌, ◌<◌, ◌∷◌, length, option_map, replicate, Ok};
 ghost use Rattle.aom_image.specs.declared.method.Argument.TheVariants.{Word};
 ghost use Rattle.aom_syntax.specs.Reading.{Reads, ReadsOrNoMemory};
-ghost use Rattle.aom_syntax.specs.Methods.{role, role_of, kind_of, all_states, accepted, usual_before, usual_after, usual_words, usual_gives, unsaid_gives, is_quiet_role, optional_states, optional_class, optional_over, argument_of, optional_arguments, gives, optional_gives, flags_of, promised, heading};
+ghost use Rattle.aom_syntax.specs.Methods.{role, role_of, kind_of, all_states, accepted, default_before, default_after, default_words, default_gives, omitted_gives, is_quiet_role, optional_states, optional_class, optional_over, argument_of, optional_arguments, gives, optional_gives, flags_of, promised, heading};
 
 use crate::class::thing_of;
 use crate::list::listed;
@@ -54,10 +54,10 @@ fn all_states(kind: ClassKind) -> u8
 }
 
 /// The states in which a method may begin and those in which it may end, where none are said.
-fn usual_states(role: Role, all: u8) -> (u8, u8)
+fn default_states(role: Role, all: u8) -> (u8, u8)
     requires { all < 64 }
-    ensures before { result.0 ≡ usual_before role all }
-    ensures after { result.1 ≡ usual_after role all }
+    ensures before { result.0 ≡ default_before role all }
+    ensures after { result.1 ≡ default_after role all }
     ensures few { (result.0 < 64) × (result.1 < 64) }
 {
     match role {
@@ -73,8 +73,8 @@ fn usual_states(role: Role, all: u8) -> (u8, u8)
 }
 
 /// How many words it takes, where no arguments are said.
-fn usual_words(role: Role) -> usize
-    ensures { result ≡ usual_words role }
+fn default_words(role: Role) -> usize
+    ensures { result ≡ default_words role }
 {
     match role {
         Role::Error | Role::Undo => 1,
@@ -84,8 +84,8 @@ fn usual_words(role: Role) -> usize
 }
 
 /// What it gives, where nothing is said; none where it has to be said.
-fn usual_gives(known: bool, role: Role, kind: ClassKind) -> Option<Gives>
-    ensures { result ≡ usual_gives known role kind }
+fn default_gives(known: bool, role: Role, kind: ClassKind) -> Option<Gives>
+    ensures { result ≡ default_gives known role kind }
 {
     match role {
         Role::Error => Some(Gives::Word),
@@ -106,10 +106,10 @@ fn accepted(known: bool, kind: ClassKind) -> Option<Gives>
 }
 
 /// What stands for a result that is missing.
-fn unsaid_gives(usual: Option<Gives>) -> Result<Gives, AsmFaultKind>
-    ensures { result ≡ unsaid_gives usual }
+fn omitted_gives(default: Option<Gives>) -> Result<Gives, AsmFaultKind>
+    ensures { result ≡ omitted_gives default }
 {
-    match usual {
+    match default {
         Some(gives) => Ok(gives),
         None => Err(AsmFaultKind::BadShape),
     }
@@ -170,7 +170,7 @@ pub fn argument_of(word: &[u8], scope: &Scope) -> Result<Argument, AsmFaultKind>
 fn words(alloc: Global, count: usize) -> Result<Vec<Argument>, AsmFaultKind>
     ensures { ReadsOrNoMemory (λ v. v.items) result (Ok (replicate count Word)) }
 {
-    let _told: Option<Thing> = None;
+    let _reported: Option<Thing> = None;
     Ok(vec![in alloc; Argument::Word; count]?)
 }
 
@@ -182,14 +182,14 @@ impl<'a> WordReader<'a> {
     }
 
     /// A set behind its keyword, and else the usual one.
-    fn optional_states(&mut self, key: Keyword, usual: u8) -> Result<States, AsmFaultKind>
-        requires { usual < 64 }
-        ensures { Reads (λ x. (x, self.new)) result (optional_states key usual self.old) }
+    fn optional_states(&mut self, key: Keyword, default: u8) -> Result<States, AsmFaultKind>
+        requires { default < 64 }
+        ensures { Reads (λ x. (x, self.new)) result (optional_states key default self.old) }
     {
         if self.took(key) {
             states_of(self.word()?)
         } else {
-            Ok(set_of(usual))
+            Ok(set_of(default))
         }
     }
 
@@ -224,14 +224,14 @@ impl<'a> WordReader<'a> {
         &mut self,
         alloc: Global,
         scope: &Scope,
-        usual: usize,
+        default: usize,
     ) -> Result<Vec<Argument>, AsmFaultKind>
-        ensures { ReadsOrNoMemory (λ x. (x.items, self.new)) result (optional_arguments scope.now usual self.old) }
+        ensures { ReadsOrNoMemory (λ x. (x.items, self.new)) result (optional_arguments scope.now default self.old) }
     {
         if self.took(Keyword::Args) {
             listed(alloc, self.word()?, scope, 6)
         } else {
-            words(alloc, usual)
+            words(alloc, default)
         }
     }
 
@@ -250,8 +250,12 @@ impl<'a> WordReader<'a> {
     }
 
     /// The end of the statement: what is said to be given, and else the usual, if there is one.
-    fn optional_gives(&mut self, scope: &Scope, usual: Option<Gives>) -> Result<Gives, AsmFaultKind>
-        ensures { Reads (λ x. (x, self.new)) result (optional_gives scope.now usual self.old) }
+    fn optional_gives(
+        &mut self,
+        scope: &Scope,
+        default: Option<Gives>,
+    ) -> Result<Gives, AsmFaultKind>
+        ensures { Reads (λ x. (x, self.new)) result (optional_gives scope.now default self.old) }
     {
         if self.took(Keyword::Gives) {
             let key = self.any_keyword()?;
@@ -260,7 +264,7 @@ impl<'a> WordReader<'a> {
             Ok(gives)
         } else {
             self.nothing_more(true)?;
-            unsaid_gives(usual)
+            omitted_gives(default)
         }
     }
 
@@ -278,11 +282,11 @@ impl<'a> WordReader<'a> {
         ensures { ReadsOrNoMemory (λ x. (x, self.new)) result (promised scope.now role class over leaves quiet self.old) }
     {
         let kind = kind_of(&scope.kinds, class);
-        let (usual_before, usual_after) = usual_states(role, all_states(kind));
-        let before = self.optional_states(Keyword::In, usual_before)?;
-        let after = self.optional_states(Keyword::Out, usual_after)?;
-        let arguments = self.optional_arguments(alloc, scope, usual_words(role))?;
-        let gives = self.optional_gives(scope, usual_gives(scope.is_strict, role, kind))?;
+        let (default_before, default_after) = default_states(role, all_states(kind));
+        let before = self.optional_states(Keyword::In, default_before)?;
+        let after = self.optional_states(Keyword::Out, default_after)?;
+        let arguments = self.optional_arguments(alloc, scope, default_words(role))?;
+        let gives = self.optional_gives(scope, default_gives(scope.is_strict, role, kind))?;
         Ok(Heading {
             class,
             over,

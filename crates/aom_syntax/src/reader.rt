@@ -4,7 +4,7 @@ ghost use Rattle.aom_text.specs.Words.{is_none_left, first_of};
 ghost use Rattle.aom_syntax.specs.Reading.{Reads, word, took, keyword, any_keyword, nothing_more, number, number_in, optional_number, name};
 
 use crate::Keyword;
-use crate::keyword::strange;
+use crate::keyword::unexpected_word;
 use aom_text::{AsmFaultKind, Number, WordCursor, is_name, is_text_word};
 use std::marker::Model;
 
@@ -66,7 +66,7 @@ impl<'a> WordReader<'a> {
         if next == key.text() {
             Ok(())
         } else {
-            Err(strange(next))
+            Err(unexpected_word(next))
         }
     }
 
@@ -76,7 +76,7 @@ impl<'a> WordReader<'a> {
         let next = self.word()?;
         match Keyword::of(next) {
             Some(keyword) => Ok(keyword),
-            None => Err(strange(next)),
+            None => Err(unexpected_word(next)),
         }
     }
 
@@ -89,7 +89,7 @@ impl<'a> WordReader<'a> {
         }
         let next = self.word()?;
         if expecting {
-            Err(strange(next))
+            Err(unexpected_word(next))
         } else {
             Err(AsmFaultKind::BadShape)
         }

@@ -25,7 +25,7 @@ impl<S: Drop> CallAnswer<S> {
     }
 
     /// An answer with those texts.
-    pub fn told(
+    pub fn reported(
         alloc: Global,
         status: S,
         out: &str,

@@ -52,15 +52,15 @@ pub split_none : (p : ℕ → Bool) (bs : List ℕ) → position p bs ≡ None �
 split_none p bs is = one_part p bs (not_chosen _ _ is)
 
 -- what a list of parts begins with
-pub record Parts (parts : List (List ℕ)) : Type 0 where
+pub record NonEmptyParts (parts : List (List ℕ)) : Type 0 where
   pub part : List ℕ
   pub more : List (List ℕ)
   pub is : parts ≡ part ∷ more
 
 -- a list is cut into one part at least
-has_parts : (p : ℕ → Bool) (bs : List ℕ) → Parts (slice_split p bs)
+has_parts : (p : ℕ → Bool) (bs : List ℕ) → NonEmptyParts (slice_split p bs)
 has_parts p [] = record { part = []; more = []; is = refl }
-has_parts p (b ∷ bs) = elim (p b) as (λ t. Parts (cond t ([] ∷ slice_split p bs) (onto_first b (slice_split p bs)))) [
+has_parts p (b ∷ bs) = elim (p b) as (λ t. NonEmptyParts (cond t ([] ∷ slice_split p bs) (onto_first b (slice_split p bs)))) [
   | true ↦ record { part = []; more = slice_split p bs; is = refl }
   | false ↦ let rest = has_parts p bs in record { part = b ∷ rest.part; more = rest.more; is = ap (onto_first b) rest.is }
 ]
@@ -68,7 +68,7 @@ has_parts p (b ∷ bs) = elim (p b) as (λ t. Parts (cond t ([] ∷ slice_split 
 -- ---- lines
 
 -- a part before others is a line
-one_more : (part : List ℕ) (parts : List (List ℕ)) → Parts parts → true_lines (part ∷ parts) ≡ part ∷ true_lines parts
+one_more : (part : List ℕ) (parts : List (List ℕ)) → NonEmptyParts parts → true_lines (part ∷ parts) ≡ part ∷ true_lines parts
 one_more part parts h = subst (λ ps. true_lines (part ∷ ps) ≡ part ∷ true_lines ps) (sym h.is) refl
 
 pub lines_first : (bs : List ℕ) (i : ℕ) → position (λ b. b == 10) bs ≡ Some i → lines_of bs ≡ take i bs ∷ lines_of (take (length bs - (i + 1)) (drop (i + 1) bs))

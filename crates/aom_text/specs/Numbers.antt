@@ -46,5 +46,5 @@ number_signed n =
     else if nat_lt n.size (2 ^ 31) then Some (pos n.size) else None
 
 -- a size is above a limit, and below one, just where the one that is told is
-abbrev pub SizesAreTold : Type 0
-SizesAreTold = (size limit : ℕ) → limit < 2 ^ 50 → (nat_le (most size) limit ≡ nat_le size limit) × (nat_lt (most size) limit ≡ nat_lt size limit)
+abbrev pub SizesAreReported : Type 0
+SizesAreReported = (size limit : ℕ) → limit < 2 ^ 50 → (nat_le (most size) limit ≡ nat_le size limit) × (nat_lt (most size) limit ≡ nat_lt size limit)

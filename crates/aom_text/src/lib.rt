@@ -13,6 +13,6 @@ mod word;
 
 pub use fault::{AsmFault, AsmFaultKind};
 pub use name::is_name;
-pub use number::{Number, sizes_are_told};
+pub use number::{Number, sizes_are_reported};
 pub use text::{Statement, StatementCursor, last_line, split_line, split_text_line};
 pub use word::{WordCursor, is_text_word};

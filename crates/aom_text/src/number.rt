@@ -1,9 +1,9 @@
 //! Numbers.
 ghost use Rattle.std.specs.Prelude.{◌≡◌, ◌<◌, ◌^◌};
-ghost use Rattle.aom_text.specs.Numbers.{is_digit, number_from, number_of, number_below, number_within, number_signed, SizesAreTold};
+ghost use Rattle.aom_text.specs.Numbers.{is_digit, number_from, number_of, number_below, number_within, number_signed, SizesAreReported};
 
 /// Sizes from here on are not told apart: each is out of every range.
-const MOST: u64 = 1 << 50;
+const MAX: u64 = 1 << 50;
 
 /// A decimal number, with a minus or without.
 #[derive(Clone, Copy)]
@@ -35,7 +35,7 @@ impl Number {
             if !is_digit(*digit) {
                 return None;
             }
-            size = (10 * size + u64::from(digit.saturating_sub(b'0'))).min(MOST);
+            size = (10 * size + u64::from(digit.saturating_sub(b'0'))).min(MAX);
         }
         Some(Number { is_negative, size })
     }
@@ -86,8 +86,8 @@ impl Number {
 }
 
 /// Below the most size the sizes that are told are the true ones: no comparison with a limit there goes wrong.
-pub fn sizes_are_told()
-    ensures { SizesAreTold }
+pub fn sizes_are_reported()
+    ensures { SizesAreReported }
 {}
 
 fn is_digit(b: u8) -> bool

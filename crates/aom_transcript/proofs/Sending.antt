@@ -70,7 +70,7 @@ page_sent {reads} before mid now old page lines p out is = record {
 pub page_cut : {reads : Line → List ℕ} (before mid now : Option (List ℕ)) (page : List ℕ) (lines : List Line) (i n : ℕ) →
     Paged reads before mid page (take i lines) → now ≡ after mid (take n page) → (k : ℕ) × (now ≡ after before (take k (text_by reads lines)))
 page_cut {reads} before mid now page lines i n p out =
-    let told = text_by reads (take i lines) in
-    let all : told ++ text_by reads (drop i lines) ≡ text_by reads lines = sym (text_by_both reads _ _) ∙ ap (text_by reads) (take-append-drop i lines) in
+    let reported = text_by reads (take i lines) in
+    let all : reported ++ text_by reads (drop i lines) ≡ text_by reads lines = sym (text_by_both reads _ _) ∙ ap (text_by reads) (take-append-drop i lines) in
     let sent = length p.sent + n in
-    (min sent (length told), grind (arith, nat_tests, out, cut_next, sent, cut_short))
+    (min sent (length reported), grind (arith, nat_tests, out, cut_next, sent, cut_short))

@@ -24,13 +24,13 @@ named_text word (Serve time class asked client) = codes "@" ++ decimal time ++ c
 named_text word line = line_text line
 
 -- names that are lent
-abbrev pub lent : List (Bor (List ℕ)) → List (List ℕ)
-lent names = map (λ (n : Bor (List ℕ)). n.now) names
+abbrev pub borrowed : List (Bor (List ℕ)) → List (List ℕ)
+borrowed names = map (λ (n : Bor (List ℕ)). n.now) names
 
 -- a line by the names of classes, where there are some
 abbrev pub named_by : Option (Bor (List (Bor (List ℕ)))) → Line → List ℕ
 named_by None = line_text
-named_by (Some names) = named_text (class_word (lent names.now))
+named_by (Some names) = named_text (class_word (borrowed names.now))
 
 -- lines that are written so, each with its line feed
 abbrev pub text_by : (Line → List ℕ) → List Line → List ℕ

@@ -4,7 +4,7 @@
 #[derive(Clone, Copy, PartialEq, Eq)]
 pub enum Event {
     /// A word for the native of that number.
-    Tell(u8, i32),
+    Report(u8, i32),
     /// The native of that number is killed.
     Kill(u8),
     /// What the client of that number does.

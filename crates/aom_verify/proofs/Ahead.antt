@@ -2,15 +2,15 @@
 use Rattle.std.proofs.Common.{◌≡◌, ◌∙◌, ℕ, ◌<◌, Bool, false, List, Option, Some, None, slice_set, inl, inr, refl, ap, arith}
 use Rattle.std.specs.Prelude.{◌⊎◌, ◌||◌}
 use Rattle.aom_image.specs.Image.{Image}
-use Rattle.aom_shape.specs.Changes.{kept_shape}
+use Rattle.aom_abstract_state.specs.Changes.{kept_shape}
 use Rattle.aom_roles.specs.Tables.{at}
-use Rattle.aom_shape.specs.declared.piles.Node.{Node}
-use Rattle.aom_shape.specs.declared.shape.Kept.{Kept}
-use Rattle.aom_verify.proofs.ShapeLemmas.{at_set_other}
-use Rattle.aom_typings.specs.Shapes.{Shapes, IsBelow}
+use Rattle.aom_abstract_state.specs.declared.entry_stacks.Node.{Node}
+use Rattle.aom_abstract_state.specs.declared.shape.Kept.{Kept}
+use Rattle.aom_verify.proofs.AbstractStateLemmas.{at_set_other}
+use Rattle.aom_static_bounds.specs.Shapes.{Shapes, IsBelow}
 use Rattle.aom_verify.specs.Change.{IsChange, step_then, then}
 use Rattle.aom_verify.specs.States.{shapes_of}
-use Rattle.aom_shape.specs.Needs.{Flow}
+use Rattle.aom_abstract_state.specs.Needs.{Flow}
 use Rattle.aom_verify.specs.Sweep.{AppliesAt, IsAhead, Joins, SameBut, SameUpTo}
 use Rattle.aom_verify.specs.declared.change.StatesChange.{StatesChange}
 use Rattle.aom_verify.specs.declared.change.StatesChange.TheVariants.{Nothing}

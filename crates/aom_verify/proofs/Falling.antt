@@ -2,18 +2,18 @@
 use Rattle.std.proofs.Common.{◌≡◌, ◌≢◌, ℕ, zero, suc, ◌<◌, ◌≤◌, List, [], ◌∷◌, IsTrue, refl, sym, ◌∙◌, arith}
 use Rattle.std.specs.List.{sum_by}
 use Rattle.std.proofs.lemmas.List.Sums.{sum_by-cons}
-use Rattle.aom_shape.specs.Order.{Weaker, WeakerFilling, SaysNoMore}
-use Rattle.aom_shape.specs.Order.Weaker.{alike, unset_word, unset_null, maybe_null, maybe_own}
-use Rattle.aom_shape.specs.Order.WeakerFilling.{alike_filling, perhaps_empty, perhaps_full}
-use Rattle.aom_shape.specs.Shape.{Shape}
+use Rattle.aom_abstract_state.specs.Order.{Weaker, WeakerFilling, IsImpliedBy}
+use Rattle.aom_abstract_state.specs.Order.Weaker.{alike, unset_word, unset_null, maybe_null, maybe_own}
+use Rattle.aom_abstract_state.specs.Order.WeakerFilling.{alike_filling, perhaps_empty, perhaps_full}
+use Rattle.aom_abstract_state.specs.AbstractState.{AbstractState}
 use Rattle.aom_roles.specs.Tables.{at}
 use Rattle.aom_image.specs.Views.{has}
-use Rattle.aom_verify.proofs.ShapeLemmas.{has_itself, larger}
-use Rattle.aom_shape.specs.declared.kind.Filling.{Filling}
-use Rattle.aom_shape.specs.declared.kind.Filling.TheVariants.{Perhaps}
-use Rattle.aom_shape.specs.declared.kind.Kind.{Kind}
-use Rattle.aom_shape.specs.declared.kind.Kind.TheVariants.{Unset}
-use Rattle.aom_typings.specs.Shapes.{Shapes}
+use Rattle.aom_verify.proofs.AbstractStateLemmas.{has_itself, larger}
+use Rattle.aom_abstract_state.specs.declared.kind.FieldState.{FieldState}
+use Rattle.aom_abstract_state.specs.declared.kind.FieldState.TheVariants.{Perhaps}
+use Rattle.aom_abstract_state.specs.declared.kind.Kind.{Kind}
+use Rattle.aom_abstract_state.specs.declared.kind.Kind.TheVariants.{Unset}
+use Rattle.aom_static_bounds.specs.Shapes.{Shapes}
 use Rattle.aom_verify.specs.Change.{kind_rank, filling_rank, states_rank, shape_rank, IsChange, then}
 use Rattle.aom_verify.specs.declared.change.StatesChange.{StatesChange}
 use Rattle.aom_verify.specs.declared.change.StatesChange.TheVariants.{Nothing, Fell, Reached}
@@ -31,12 +31,12 @@ kind_stays : (a b : Kind) → Weaker a b → kind_rank a ≡ kind_rank b → Wea
 kind_stays a b (alike {k = k}) e = alike
 kind_stays a b _ e = absurd (omega arith)
 
-filling_falls : (a b : Filling) → WeakerFilling a b → filling_rank a ≤ filling_rank b
+filling_falls : (a b : FieldState) → WeakerFilling a b → filling_rank a ≤ filling_rank b
 filling_falls a b (alike_filling {x = x}) = omega arith
 filling_falls a b perhaps_empty = omega arith
 filling_falls a b perhaps_full = omega arith
 
-filling_stays : (a b : Filling) → WeakerFilling a b → filling_rank a ≡ filling_rank b → WeakerFilling b a
+filling_stays : (a b : FieldState) → WeakerFilling a b → filling_rank a ≡ filling_rank b → WeakerFilling b a
 filling_stays a b (alike_filling {x = x}) e = alike_filling
 filling_stays a b _ e = absurd (omega arith)
 
@@ -69,7 +69,7 @@ states_stay a b byte h e =
     rw (← same) (has_itself a)
 
 -- a state that says strictly less
-pub shape_falls : (a b : Shape) → a.states < 256 → SaysNoMore a b → ¬ SaysNoMore b a → shape_rank a < shape_rank b
+pub shape_falls : (a b : AbstractState) → a.states < 256 → IsImpliedBy a b → ¬ IsImpliedBy b a → shape_rank a < shape_rank b
 shape_falls a b byte h refused =
     let registers = all_fall Unset kind_rank Weaker alike refl kind_falls kind_stays a.registers b.registers h.registers in
     let fields = all_fall Perhaps filling_rank WeakerFilling alike_filling refl filling_falls filling_stays a.fields b.fields h.fields in
@@ -79,7 +79,7 @@ shape_falls a b byte h refused =
       fields = all_stay Perhaps filling_rank WeakerFilling alike_filling refl filling_falls filling_stays a.fields b.fields h.fields (omega arith);
       entries = sym h.entries;
       states = states_stay a.states b.states byte h.states (omega arith);
-      delivery = sym h.delivery;
+      message_state = sym h.message_state;
     }) in
     omega (arith, registers, fields, states, differ)
 

@@ -1,8 +1,8 @@
 -- Whoever meets the flows of a state meets those of a state that says more.
 use Rattle.std.proofs.Common.{List, [], ◌∷◌, inl, inr}
-use Rattle.aom_rules.specs.Laws.{Follows, AllFollow}
-use Rattle.aom_shape.specs.Needs.{Flow}
-use Rattle.aom_typings.specs.Shapes.{Shapes, Meets, AllMet}
+use Rattle.aom_typing_rules.specs.Laws.{Follows, AllFollow}
+use Rattle.aom_abstract_state.specs.Needs.{Flow}
+use Rattle.aom_static_bounds.specs.Shapes.{Shapes, Meets, AllMet}
 use Rattle.aom_verify.proofs.Ordering.{meets_more}
 
 follows_met : (t : Shapes) (xs : List Flow) (way : Flow) → Follows xs way → AllMet t xs → Meets t way.0 way.1

@@ -1,17 +1,17 @@
 -- Meeting a flow into the state at a place, and meeting several one after the other.
 use Rattle.std.proofs.Common.{◌≡◌, ℕ, ◌<◌, List, [], ◌∷◌, ◌++◌, length, Some, None, slice_set, slice_index_or, inl, inr, refl, sym, ◌∙◌, ap, arith}
-use Rattle.std.proofs.lemmas.Bool.Decides.{eqb_tells}
+use Rattle.std.proofs.lemmas.Bool.Decides.{eqb_reports}
 use Rattle.std.proofs.lemmas.List.{length-set}
 use Rattle.std.proofs.lemmas.List.Sums.{sum_by-set}
 use Rattle.aom_image.specs.Image.{Image}
-use Rattle.aom_shape.specs.Meet.{IsMeet, NoMeet, WhyNoMeet}
-use Rattle.aom_shape.specs.Needs.{Flow}
-use Rattle.aom_shape.specs.Order.{SaysNoMore}
-use Rattle.aom_shape.specs.Shape.{Shape}
+use Rattle.aom_abstract_state.specs.Meet.{IsMeet, NoMeet, ReasonNoMeet}
+use Rattle.aom_abstract_state.specs.Needs.{Flow}
+use Rattle.aom_abstract_state.specs.Order.{IsImpliedBy}
+use Rattle.aom_abstract_state.specs.AbstractState.{AbstractState}
 use Rattle.aom_roles.specs.Tables.{at}
-use Rattle.aom_shape.specs.declared.why.Why.{Why}
-use Rattle.aom_verify.proofs.ShapeLemmas.{at_set_here, at_set_other, at_within, reflexive, transitive}
-use Rattle.aom_typings.specs.Shapes.{Shapes, Meets, AllMet, IsBelow}
+use Rattle.aom_abstract_state.specs.declared.why.Reason.{Reason}
+use Rattle.aom_verify.proofs.AbstractStateLemmas.{at_set_here, at_set_other, at_within, reflexive, transitive}
+use Rattle.aom_static_bounds.specs.Shapes.{Shapes, Meets, AllMet, IsBelow}
 use Rattle.aom_verify.specs.Arrivals.{Arrives, AllArrive, EachArrives, JoinFails}
 use Rattle.aom_verify.specs.Arrivals.Arrives.{met as met_there}
 use Rattle.aom_verify.specs.Arrivals.IsRefused.{without_meet}
@@ -23,47 +23,47 @@ use Rattle.aom_verify.proofs.Ordering.{meets_below, below_self, below_along}
 use Rattle.aom_verify.proofs.Falling.{shape_falls, changes_add}
 
 -- what a new state at a place owes: it says no more than the flow and than the old state, is the strongest such, and arrives there as they do
-pub record IsPut (s : Shapes) (to : ℕ) (sh m : Shape) : Type 0 where
+pub record IsPut (s : Shapes) (to : ℕ) (sh m : AbstractState) : Type 0 where
   pub within : to < length s
-  pub no_more : SaysNoMore m sh
-  pub old : (there : Shape) → at None s to ≡ Some there → SaysNoMore m there
+  pub implied : IsImpliedBy m sh
+  pub old : (there : AbstractState) → at None s to ≡ Some there → IsImpliedBy m there
   pub arrives : (p : Image) (k : ℕ) → AllArrive p k s → Arrives p k to sh → Arrives p k to m
-  pub strongest : (n : Shape) → SaysNoMore n sh → ((there : Shape) → at None s to ≡ Some there → SaysNoMore n there) → SaysNoMore n m
+  pub strongest : (n : AbstractState) → IsImpliedBy n sh → ((there : AbstractState) → at None s to ≡ Some there → IsImpliedBy n there) → IsImpliedBy n m
 
-pub put_here : (s : Shapes) (to : ℕ) (m : Shape) → to < length s → at None (slice_set s to (Some m)) to ≡ Some m
+pub put_here : (s : Shapes) (to : ℕ) (m : AbstractState) → to < length s → at None (slice_set s to (Some m)) to ≡ Some m
 put_here s to m h = at_set_here None s to (Some m) h
 
-put_below : (s : Shapes) (to : ℕ) (sh m : Shape) → IsPut s to sh m → IsBelow (slice_set s to (Some m)) s
+put_below : (s : Shapes) (to : ℕ) (sh m : AbstractState) → IsPut s to sh m → IsBelow (slice_set s to (Some m)) s
 put_below s to sh m h = record {
-  each = λ pc x e. elim (eqb_tells pc to) [
-    | inl w ↦ record { next = m; there = rw w.1 (put_here s to m h.within); no_more = h.old x (rw w.1 at e) }
-    | inr w ↦ record { next = x; there = at_set_other None s to pc (Some m) w.1 ∙ e; no_more = reflexive x }
+  each = λ pc x e. elim (eqb_reports pc to) [
+    | inl w ↦ record { next = m; there = rw w.1 (put_here s to m h.within); implied = h.old x (rw w.1 at e) }
+    | inr w ↦ record { next = x; there = at_set_other None s to pc (Some m) w.1 ∙ e; implied = reflexive x }
   ];
 }
 
 -- a list of states below the old ones that meets the flow
-below_at : (t s : Shapes) (to : ℕ) (sh : Shape) (meets : Meets t to sh) → IsBelow t s → (there : Shape) → at None s to ≡ Some there → SaysNoMore meets.next there
+below_at : (t s : Shapes) (to : ℕ) (sh : AbstractState) (meets : Meets t to sh) → IsBelow t s → (there : AbstractState) → at None s to ≡ Some there → IsImpliedBy meets.next there
 below_at t s to sh meets below there e =
     let other = below.each to there e in
     let same : other.next ≡ meets.next = let f = other.there in let g = meets.there in cc in
-    rw same at other.no_more
+    rw same at other.implied
 
-put_strongest : (t s : Shapes) (to : ℕ) (sh m : Shape) → IsPut s to sh m → IsBelow t s → Meets t to sh → IsBelow t (slice_set s to (Some m))
+put_strongest : (t s : Shapes) (to : ℕ) (sh m : AbstractState) → IsPut s to sh m → IsBelow t s → Meets t to sh → IsBelow t (slice_set s to (Some m))
 put_strongest t s to sh m h below meets = record {
-  each = λ pc x e. elim (eqb_tells pc to) [
+  each = λ pc x e. elim (eqb_reports pc to) [
     | inl w ↦
         let here = put_here s to m h.within in
         let same : m ≡ x = let f = rw w.1 at e in cc in
         let found : Meets t to m =
-        record { next = meets.next; there = meets.there; no_more = h.strongest meets.next meets.no_more (below_at t s to sh meets below) } in
+        record { next = meets.next; there = meets.there; implied = h.strongest meets.next meets.implied (below_at t s to sh meets below) } in
         rw (w.1, ← same) found
     | inr w ↦ below.each pc x (sym (at_set_other None s to pc (Some m) w.1) ∙ e)
   ];
 }
 
-put_arrives : (s : Shapes) (to : ℕ) (sh m : Shape) → IsPut s to sh m → (p : Image) (k : ℕ) → AllArrive p k s → Arrives p k to sh →
+put_arrives : (s : Shapes) (to : ℕ) (sh m : AbstractState) → IsPut s to sh m → (p : Image) (k : ℕ) → AllArrive p k s → Arrives p k to sh →
     AllArrive p k (slice_set s to (Some m))
-put_arrives s to sh m h p k all here = λ pc x e. elim (eqb_tells pc to) [
+put_arrives s to sh m h p k all here = λ pc x e. elim (eqb_reports pc to) [
   | inl w ↦
       let there = put_here s to m h.within in
       let same : m ≡ x = let f = rw w.1 at e in cc in
@@ -71,45 +71,45 @@ put_arrives s to sh m h p k all here = λ pc x e. elim (eqb_tells pc to) [
   | inr w ↦ all pc x (sym (at_set_other None s to pc (Some m) w.1) ∙ e)
 ]
 
-joins_put : (s : Shapes) (to : ℕ) (sh m : Shape) (change : StatesChange) → IsPut s to sh m → IsChange s (slice_set s to (Some m)) change →
+joins_put : (s : Shapes) (to : ℕ) (sh m : AbstractState) (change : StatesChange) → IsPut s to sh m → IsChange s (slice_set s to (Some m)) change →
     Joins s (slice_set s to (Some m)) ((to, sh) ∷ []) change
 joins_put s to sh m change h changed = record {
   size = length-set s to (Some m);
   below_old = put_below s to sh m h;
-  met = (record { next = m; there = put_here s to m h.within; no_more = h.no_more }, tt);
+  met = (record { next = m; there = put_here s to m h.within; implied = h.implied }, tt);
   strongest = λ t below meets. put_strongest t s to sh m h below meets.0;
   arrives = λ p k all each. put_arrives s to sh m h p k all each.0;
   changed = changed;
 }
 
 -- a place is reached first
-pub joins_first : (s : Shapes) (to : ℕ) (sh : Shape) → to < length s → at None s to ≡ None → Joins s (slice_set s to (Some sh)) ((to, sh) ∷ []) Reached
+pub joins_first : (s : Shapes) (to : ℕ) (sh : AbstractState) → to < length s → at None s to ≡ None → Joins s (slice_set s to (Some sh)) ((to, sh) ∷ []) Reached
 joins_first s to sh within e =
     let read : slice_index_or s to None ≡ None = at_within None None s to within ∙ e in
     joins_put s to sh sh Reached
-    (record { within = within; no_more = reflexive sh; old = λ there f. absurd cc; arrives = λ p k all here. here; strongest = λ n h k. h })
+    (record { within = within; implied = reflexive sh; old = λ there f. absurd cc; arrives = λ p k all here. here; strongest = λ n h k. h })
     (omega (arith, sum_by-set unreached s to (Some sh) None within, ap unreached read))
 
 -- the state there says no more already
-pub joins_none : (s : Shapes) (to : ℕ) (sh there : Shape) → at None s to ≡ Some there → SaysNoMore there sh → Joins s s ((to, sh) ∷ []) Nothing
+pub joins_none : (s : Shapes) (to : ℕ) (sh there : AbstractState) → at None s to ≡ Some there → IsImpliedBy there sh → Joins s s ((to, sh) ∷ []) Nothing
 joins_none s to sh there here h = record {
   size = refl;
   below_old = below_self s;
-  met = (record { next = there; there = here; no_more = h }, tt);
+  met = (record { next = there; there = here; implied = h }, tt);
   strongest = λ t below meets. below;
   arrives = λ p k all each. all;
   changed = refl;
 }
 
 -- the state there falls
-pub joins_lower : (s : Shapes) (to : ℕ) (sh there less : Shape) → to < length s → at None s to ≡ Some there →
-    ¬ SaysNoMore there sh → IsMeet less there sh → less.states < 256 → Joins s (slice_set s to (Some less)) ((to, sh) ∷ []) Fell
+pub joins_lower : (s : Shapes) (to : ℕ) (sh there less : AbstractState) → to < length s → at None s to ≡ Some there →
+    ¬ IsImpliedBy there sh → IsMeet less there sh → less.states < 256 → Joins s (slice_set s to (Some less)) ((to, sh) ∷ []) Fell
 joins_lower s to sh there less within here differs meet byte =
     let read : slice_index_or s to (Some there) ≡ Some there = at_within None (Some there) s to within ∙ here in
     let falls = shape_falls less there byte meet.first (λ h. differs (transitive there less sh h meet.second)) in
     joins_put s to sh less Fell (record {
       within = within;
-      no_more = meet.second;
+      implied = meet.second;
       old = λ other f. let same : there ≡ other = cc in rw same at meet.first;
       arrives = λ p k all new. met_there (all to there here) new meet;
       strongest = λ n h k. meet.strongest n (k there here) h;
@@ -119,12 +119,12 @@ joins_lower s to sh there less within here differs meet byte =
     )
 
 -- nothing says no more than the state there and the flow
-pub cannot_join : (s : Shapes) (to : ℕ) (sh there : Shape) → at None s to ≡ Some there → NoMeet there sh → CannotJoin s ((to, sh) ∷ [])
+pub cannot_join : (s : Shapes) (to : ℕ) (sh there : AbstractState) → at None s to ≡ Some there → NoMeet there sh → CannotJoin s ((to, sh) ∷ [])
 cannot_join s to sh there here no_meet =
-    record { none = λ t below meets. no_meet.none meets.0.next (below_at t s to sh meets.0 below there here) meets.0.no_more }
+    record { none = λ t below meets. no_meet.none meets.0.next (below_at t s to sh meets.0 below there here) meets.0.implied }
 
 -- and where both arrive the state there is refused
-pub join_fails : (s : Shapes) (to : ℕ) (sh there : Shape) (why : Why) → at None s to ≡ Some there → NoMeet there sh → WhyNoMeet there sh why →
+pub join_fails : (s : Shapes) (to : ℕ) (sh there : AbstractState) (why : Reason) → at None s to ≡ Some there → NoMeet there sh → ReasonNoMeet there sh why →
     JoinFails s s ((to, sh) ∷ []) to why
 join_fails s to sh there why here no_meet reason = λ p k all each. record { arrive = all; shape = there; there = here; refused = without_meet each.0 no_meet reason }
 
@@ -172,10 +172,10 @@ pub cannot_last : (a b : Shapes) (xs ys : List Flow) (x : StatesChange) → Join
 cannot_last a b xs ys x h k = record { none = λ t below met. k.none t (h.strongest t below (all_met_first t xs ys met)) (all_met_last t xs ys met) }
 
 -- the place where one way stops is that of all of them
-pub fails_first : (a c : Shapes) (xs ys : List Flow) (place : ℕ) (why : Why) → JoinFails a c xs place why → JoinFails a c (xs ++ ys) place why
+pub fails_first : (a c : Shapes) (xs ys : List Flow) (place : ℕ) (why : Reason) → JoinFails a c xs place why → JoinFails a c (xs ++ ys) place why
 fails_first a c xs ys place why fails = λ p k all each. fails p k all (each_first p k xs ys each)
 
-pub fails_last : (a b c : Shapes) (xs ys : List Flow) (x : StatesChange) (place : ℕ) (why : Why) → Joins a b xs x → JoinFails b c ys place why →
+pub fails_last : (a b c : Shapes) (xs ys : List Flow) (x : StatesChange) (place : ℕ) (why : Reason) → Joins a b xs x → JoinFails b c ys place why →
     JoinFails a c (xs ++ ys) place why
 fails_last a b c xs ys x place why h fails = λ p k all each. fails p k (h.arrives p k all (each_first p k xs ys each)) (each_last p k xs ys each)
 

@@ -13,7 +13,7 @@ mod Stopping
 mod Places
 mod Refusing
 pub mod VerifyLemmas
-pub use Rattle.aom_classes.proofs.ClassesLemmas
-pub use Rattle.aom_rules.proofs.RulesLemmas
-pub use Rattle.aom_shape.proofs.ShapeLemmas
-pub use Rattle.aom_typings.proofs.TypingsLemmas
+pub use Rattle.aom_link_conditions.proofs.LinkConditionsLemmas
+pub use Rattle.aom_typing_rules.proofs.TypingRulesLemmas
+pub use Rattle.aom_abstract_state.proofs.AbstractStateLemmas
+pub use Rattle.aom_static_bounds.proofs.StaticBoundsLemmas

@@ -4,9 +4,9 @@ use Rattle.aom_image.specs.Image.{Image}
 use Rattle.aom_image.specs.Views.{method_at}
 use Rattle.aom_image.specs.WellFormed.{WellFormed, MethodFits}
 use Rattle.aom_image.specs.declared.method.Method.{Method}
-use Rattle.aom_verify.proofs.ClassesLemmas.{all_there}
-use Rattle.aom_shape.specs.Shape.{Shape}
-use Rattle.aom_typings.specs.Shapes.{Shapes}
+use Rattle.aom_verify.proofs.LinkConditionsLemmas.{all_there}
+use Rattle.aom_abstract_state.specs.AbstractState.{AbstractState}
+use Rattle.aom_static_bounds.specs.Shapes.{Shapes}
 use Rattle.aom_verify.specs.Entries.{HasRoom}
 use Rattle.aom_verify.specs.Sweep.{HasPlaces, Spans}
 
@@ -17,7 +17,7 @@ some_places p m d h e = let fits : MethodFits p.header.version (length p.classes
     omega (arith, fits.some_code)
 
 -- a state with room has fewer entries than a method may have places
-pub few_places : (p : Image) (m : ℕ) (sh : Shape) → WellFormed p → IsSome (method_at p m) → HasRoom p m sh → length sh.entries < 1024
+pub few_places : (p : Image) (m : ℕ) (sh : AbstractState) → WellFormed p → IsSome (method_at p m) → HasRoom p m sh → length sh.entries < 1024
 unfolding method_at
 few_places p m sh h some room = elim (method_at p m) as (λ o. method_at p m ≡ o → IsSome o → length sh.entries < 1024) [
   | None ↦ λ e some. absurd cc

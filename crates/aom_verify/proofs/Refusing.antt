@@ -2,9 +2,9 @@
 use Rattle.std.proofs.Common.{◌≡◌, ℕ, ◌<◌, IsSome, refl}
 use Rattle.aom_image.specs.Image.{Image}
 use Rattle.aom_image.specs.Views.{method_at}
-use Rattle.aom_rules.specs.Typing.{Typing, IsTyped}
-use Rattle.aom_typings.specs.Shapes.{HasTyping}
-use Rattle.aom_verify.proofs.TypingsLemmas.{method_typed}
+use Rattle.aom_typing_rules.specs.Typing.{Typing, IsTyped}
+use Rattle.aom_static_bounds.specs.Shapes.{HasTyping}
+use Rattle.aom_verify.proofs.StaticBoundsLemmas.{method_typed}
 use Rattle.aom_verify.specs.Refusals.{RefusesMethod, RefusesOrWants}
 use Rattle.aom_verify.specs.declared.refusal.Refusal.{Refusal}
 use Rattle.aom_verify.specs.declared.refusal.Refusal.TheVariants.{OutOfMemory, Refused}

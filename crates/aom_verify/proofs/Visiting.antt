@@ -2,14 +2,14 @@
 use Rattle.std.proofs.Common.{◌≡◌, ℕ, ◌<◌, false, List, [], ◌∷◌, length, Some, None, IsSome, inl, inr, refl, arith}
 use Rattle.aom_image.specs.Image.{Image}
 use Rattle.aom_image.specs.Views.{instr_at, instr_in}
-use Rattle.aom_shape.specs.Needs.{Flow}
-use Rattle.aom_shape.specs.Order.{SaysNoMore}
-use Rattle.aom_rules.specs.Rules.{flows}
-use Rattle.aom_shape.specs.Shape.{Shape}
+use Rattle.aom_abstract_state.specs.Needs.{Flow}
+use Rattle.aom_abstract_state.specs.Order.{IsImpliedBy}
+use Rattle.aom_typing_rules.specs.Rules.{flows}
+use Rattle.aom_abstract_state.specs.AbstractState.{AbstractState}
 use Rattle.aom_roles.specs.Tables.{at}
-use Rattle.aom_shape.specs.declared.why.Why.{Why}
-use Rattle.aom_verify.proofs.RulesLemmas.{flows_more, needs_more}
-use Rattle.aom_typings.specs.Shapes.{Shapes, AllMet, IsBelow, Applies, IsMethodTyped}
+use Rattle.aom_abstract_state.specs.declared.why.Reason.{Reason}
+use Rattle.aom_verify.proofs.TypingRulesLemmas.{flows_more, needs_more}
+use Rattle.aom_static_bounds.specs.Shapes.{Shapes, AllMet, IsBelow, Applies, IsMethodTyped}
 use Rattle.aom_verify.specs.Arrivals.{Arrives, IsOneOf, AllArrive, EachArrives, JoinFails, StatesFail}
 use Rattle.aom_verify.specs.Arrivals.Arrives.{led}
 use Rattle.aom_verify.specs.Arrivals.IsRefused.{by_need}
@@ -33,65 +33,65 @@ pub within_shapes : (p : Image) (m : ℕ) (s : Shapes) (ways : List Flow) → Sp
 within_shapes p m s ways h w = rw h.size (w.each h.method h.is)
 
 -- a typing below the states says no more than the one state
-record IsTypedBelow (p : Image) (m : ℕ) (t : Shapes) (pc : ℕ) (sh : Shape) : Type 0 where
-  next : Shape
-  no_more : SaysNoMore next sh
+record IsTypedBelow (p : Image) (m : ℕ) (t : Shapes) (pc : ℕ) (sh : AbstractState) : Type 0 where
+  next : AbstractState
+  implied : IsImpliedBy next sh
   applies : Applies p m t pc next
 
-typed_below : (p : Image) (m : ℕ) (t s : Shapes) (pc : ℕ) (sh : Shape) → IsMethodTyped p m t → IsBelow t s → at None s pc ≡ Some sh → IsTypedBelow p m t pc sh
+typed_below : (p : Image) (m : ℕ) (t s : Shapes) (pc : ℕ) (sh : AbstractState) → IsMethodTyped p m t → IsBelow t s → at None s pc ≡ Some sh → IsTypedBelow p m t pc sh
 typed_below p m t s pc sh typed below e =
     let meets = below.each pc sh e in
-    record { next = meets.next; no_more = meets.no_more; applies = typed.each pc meets.next meets.there }
+    record { next = meets.next; implied = meets.implied; applies = typed.each pc meets.next meets.there }
 
 -- it meets the flows
-typing_meets : (p : Image) (m : ℕ) (t s : Shapes) (pc : ℕ) (sh : Shape) (ways : List Flow) → at None s pc ≡ Some sh → Flows p m pc sh ways →
+typing_meets : (p : Image) (m : ℕ) (t s : Shapes) (pc : ℕ) (sh : AbstractState) (ways : List Flow) → at None s pc ≡ Some sh → Flows p m pc sh ways →
     IsMethodTyped p m t → IsBelow t s → AllMet t ways
 typing_meets p m t s pc sh ways e h typed below =
     let found = typed_below p m t s pc sh typed below e in
     let same : found.applies.instr ≡ h.instr = let f = found.applies.stands in let g = h.stands in cc in
-    let follow = flows_more p m pc found.next sh h.instr found.no_more (rw same at found.applies.needs) in
+    let follow = flows_more p m pc found.next sh h.instr found.implied (rw same at found.applies.needs) in
     rw h.is (follow_met t (flows p m pc found.next h.instr) (flows p m pc sh h.instr) follow (rw same at found.applies.flows))
 
 -- where the rule fails there is none
-pub failed_visit : (p : Image) (m : ℕ) (s : Shapes) (pc : ℕ) (sh : Shape) (why : Why) → at None s pc ≡ Some sh → Fails p m pc sh why → NoTypingBelow p m s
+pub failed_visit : (p : Image) (m : ℕ) (s : Shapes) (pc : ℕ) (sh : AbstractState) (why : Reason) → at None s pc ≡ Some sh → Fails p m pc sh why → NoTypingBelow p m s
 failed_visit p m s pc sh why e h = record {
   none = λ t typed below.
       let found = typed_below p m t s pc sh typed below e in
       let same : found.applies.instr ≡ h.instr = let f = found.applies.stands in let g = h.stands in cc in
-      h.unmet (needs_more p m pc found.next sh h.instr found.no_more (rw same at found.applies.needs));
+      h.unmet (needs_more p m pc found.next sh h.instr found.implied (rw same at found.applies.needs));
 }
 
 -- where the flows cannot be joined there is none
-pub failed_join : (p : Image) (m : ℕ) (s : Shapes) (pc : ℕ) (sh : Shape) (ways : List Flow) → at None s pc ≡ Some sh → Flows p m pc sh ways →
+pub failed_join : (p : Image) (m : ℕ) (s : Shapes) (pc : ℕ) (sh : AbstractState) (ways : List Flow) → at None s pc ≡ Some sh → Flows p m pc sh ways →
     CannotJoin s ways → NoTypingBelow p m s
 failed_join p m s pc sh ways e h k = record { none = λ t typed below. k.none t below (typing_meets p m t s pc sh ways e h typed below) }
 
 -- the flows of a state that arrives do
-each_arrives : (p : Image) (m : ℕ) (ways : List Flow) → ((to : ℕ) (next : Shape) → IsOneOf ways (to, next) → Arrives p m to next) → EachArrives p m ways
+each_arrives : (p : Image) (m : ℕ) (ways : List Flow) → ((to : ℕ) (next : AbstractState) → IsOneOf ways (to, next) → Arrives p m to next) → EachArrives p m ways
 each_arrives p m [] h = tt
 each_arrives p m (way ∷ ways) h = (h way.0 way.1 (inl refl), each_arrives p m ways (λ to next one. h to next (inr one)))
 
-ways_arrive : (p : Image) (m : ℕ) (s : Shapes) (pc : ℕ) (sh : Shape) (ways : List Flow) → at None s pc ≡ Some sh → Flows p m pc sh ways →
+ways_arrive : (p : Image) (m : ℕ) (s : Shapes) (pc : ℕ) (sh : AbstractState) (ways : List Flow) → at None s pc ≡ Some sh → Flows p m pc sh ways →
     AllArrive p m s → EachArrives p m ways
 ways_arrive p m s pc sh ways e h all = rw h.is (each_arrives p m (flows p m pc sh h.instr) (λ to next one. led (all pc sh e) h.stands h.needs one))
 
 -- a need that fails there, and flows that cannot be joined, are told of states that arrive
-pub told_rule : (p : Image) (m : ℕ) (s : Shapes) (pc place : ℕ) (sh : Shape) (why : Why) → at None s pc ≡ Some sh → Fails p m pc sh why → place ≡ pc →
+pub reported_rule : (p : Image) (m : ℕ) (s : Shapes) (pc place : ℕ) (sh : AbstractState) (why : Reason) → at None s pc ≡ Some sh → Fails p m pc sh why → place ≡ pc →
     StatesFail p m s s place why
-told_rule p m s pc place sh why e h same = λ all. rw same (record { arrive = all; shape = sh; there = e; refused = by_need h.stands h.is })
+reported_rule p m s pc place sh why e h same = λ all. rw same (record { arrive = all; shape = sh; there = e; refused = by_need h.stands h.is })
 
-pub told_join : (p : Image) (m : ℕ) (s new : Shapes) (pc place : ℕ) (sh : Shape) (ways : List Flow) (why : Why) → at None s pc ≡ Some sh →
+pub reported_join : (p : Image) (m : ℕ) (s new : Shapes) (pc place : ℕ) (sh : AbstractState) (ways : List Flow) (why : Reason) → at None s pc ≡ Some sh →
     Flows p m pc sh ways → JoinFails s new ways place why → StatesFail p m s new place why
-told_join p m s new pc place sh ways why e h fails = λ all. fails p m all (ways_arrive p m s pc sh ways e h all)
+reported_join p m s new pc place sh ways why e h fails = λ all. fails p m all (ways_arrive p m s pc sh ways e h all)
 
-pub applies_after : (p : Image) (m : ℕ) (s new : Shapes) (pc : ℕ) (sh : Shape) (ways : List Flow) → at None s pc ≡ Some sh →
+pub applies_after : (p : Image) (m : ℕ) (s new : Shapes) (pc : ℕ) (sh : AbstractState) (ways : List Flow) → at None s pc ≡ Some sh →
     Flows p m pc sh ways → AllMet new ways → at None new pc ≡ at None s pc → AppliesAt p m new pc
 applies_after p m s new pc sh ways e h met same = λ x f.
     let alike : sh ≡ x = let g = rw same at f in cc in
     let found : Applies p m new pc sh = record { instr = h.instr; stands = h.stands; needs = h.needs; flows = rw h.is at met } in
     rw alike at found
 
-pub visited : (p : Image) (m : ℕ) (s new : Shapes) (pc : ℕ) (sh : Shape) (ways : List Flow) (step : Step) → at None s pc ≡ Some sh →
+pub visited : (p : Image) (m : ℕ) (s new : Shapes) (pc : ℕ) (sh : AbstractState) (ways : List Flow) (step : Step) → at None s pc ≡ Some sh →
     Flows p m pc sh ways → Joins s new ways step.change → IsAhead pc s new step → Visits p m s new pc step
 visited p m s new pc sh ways step e h k ahead = record {
   keeps = record {

@@ -4,26 +4,26 @@ use Rattle.std.specs.Prelude.{IfOk, IfErr}
 use Rattle.aom_image.specs.Image.{Image}
 use Rattle.aom_image.specs.Views.{instr_at, method_at}
 use Rattle.aom_instructions.specs.declared.instr.Instr.{Instr}
-use Rattle.aom_classes.specs.Jumps.{KeepsWithin, back_of, jump_of}
-use Rattle.aom_classes.specs.Linked.{IsLinked}
-use Rattle.aom_classes.specs.Loops.{LoopsNest}
-use Rattle.aom_verify.proofs.ClassesLemmas.{at_place, back_within, linked_place, of_method}
+use Rattle.aom_link_conditions.specs.Jumps.{KeepsWithin, back_of, jump_of}
+use Rattle.aom_link_conditions.specs.Linked.{IsLinked}
+use Rattle.aom_link_conditions.specs.Loops.{LoopsNest}
+use Rattle.aom_verify.proofs.LinkConditionsLemmas.{at_place, back_within, linked_place, of_method}
 use Rattle.aom_image.specs.declared.method.Method.{Method}
 use Rattle.aom_roles.specs.Tests.{AllTrue}
-use Rattle.aom_shape.specs.Kinds.{register, field}
-use Rattle.aom_shape.specs.Changes.{told, ways_from}
-use Rattle.aom_shape.specs.Needs.{Need, Flow, judged}
-use Rattle.aom_shape.specs.declared.flow.Flow.{Flow as Ruled}
-use Rattle.aom_rules.specs.Objects.{flow_jump_null, flow_jump_empty}
-use Rattle.aom_rules.specs.Rules.{rule_needs, flows, rule, ways_of}
-use Rattle.aom_shape.specs.Shape.{Shape}
-use Rattle.aom_rules.specs.Ways.{Ways, Ends, Goes_on, Goes_to, Branches, Goes_back, Branches_on_null, Branches_on_empty, Branches_in, flowing}
-use Rattle.aom_shape.specs.declared.kind.Filling.{Filling}
-use Rattle.aom_shape.specs.declared.kind.Filling.TheVariants as fillings
-use Rattle.aom_shape.specs.declared.kind.Kind.{Kind}
-use Rattle.aom_shape.specs.declared.kind.Kind.TheVariants as kinds
-use Rattle.aom_shape.specs.declared.why.Why.{Why}
-use Rattle.aom_verify.proofs.RulesLemmas.{Leads, by_states, leads}
+use Rattle.aom_abstract_state.specs.Kinds.{register, field}
+use Rattle.aom_abstract_state.specs.Changes.{reported, ways_from}
+use Rattle.aom_abstract_state.specs.Needs.{Need, Flow, judged}
+use Rattle.aom_abstract_state.specs.declared.flow.Flow.{Flow as Ruled}
+use Rattle.aom_typing_rules.specs.Objects.{flow_jump_null, flow_jump_empty}
+use Rattle.aom_typing_rules.specs.Rules.{rule_needs, flows, rule, ways_of}
+use Rattle.aom_abstract_state.specs.AbstractState.{AbstractState}
+use Rattle.aom_typing_rules.specs.Ways.{Ways, Ends, Goes_on, Goes_to, Branches, Goes_back, Branches_on_null, Branches_on_empty, Branches_in, flowing}
+use Rattle.aom_abstract_state.specs.declared.kind.FieldState.{FieldState}
+use Rattle.aom_abstract_state.specs.declared.kind.FieldState.TheVariants as field_states
+use Rattle.aom_abstract_state.specs.declared.kind.Kind.{Kind}
+use Rattle.aom_abstract_state.specs.declared.kind.Kind.TheVariants as kinds
+use Rattle.aom_abstract_state.specs.declared.why.Reason.{Reason}
+use Rattle.aom_verify.proofs.TypingRulesLemmas.{Leads, by_states, leads}
 use Rattle.aom_verify.specs.Sweep.{AllWithin, Flows, Fails, WithinMethod}
 
 judged_ok : (needs : List Need) (fs gs : List Flow) → judged needs fs ≡ Ok gs → AllTrue needs × (gs ≡ fs)
@@ -33,11 +33,11 @@ judged_ok (need ∷ needs) fs gs e = elim need.0 as (λ b. cond b (judged needs 
   | false ↦ λ e. absurd cc
 ] e
 
-judged_err : (needs : List Need) (fs : List Flow) (why : Why) → judged needs fs ≡ Err why → ¬ AllTrue needs
+judged_err : (needs : List Need) (fs : List Flow) (why : Reason) → judged needs fs ≡ Err why → ¬ AllTrue needs
 judged_err [] fs why e = λ all. cc
 judged_err (need ∷ needs) fs why e = λ all. judged_err needs fs why (rw all.0 at e) all.1
 
-pub has_flows : (p : Image) (m pc : ℕ) (sh : Shape) (ways : List Flow) → IsSome (instr_at p m pc) →
+pub has_flows : (p : Image) (m pc : ℕ) (sh : AbstractState) (ways : List Flow) → IsSome (instr_at p m pc) →
     IfSome (instr_at p m pc) (λ i. Ok ways ≡ rule p m pc sh i) → Flows p m pc sh ways
 has_flows p m pc sh ways some h =
     elim (instr_at p m pc) as (λ o. instr_at p m pc ≡ o → IsSome o → IfSome o (λ i. Ok ways ≡ rule p m pc sh i) → Flows p m pc sh ways) [
@@ -47,7 +47,7 @@ has_flows p m pc sh ways some h =
           record { instr = i; stands = e; needs = r.0; is = r.1 }
     ] refl some h
 
-pub has_failed : (p : Image) (m pc : ℕ) (sh : Shape) (why : Why) → IsSome (instr_at p m pc) →
+pub has_failed : (p : Image) (m pc : ℕ) (sh : AbstractState) (why : Reason) → IsSome (instr_at p m pc) →
     IfSome (instr_at p m pc) (λ i. Err why ≡ rule p m pc sh i) → Fails p m pc sh why
 has_failed p m pc sh why some h =
     elim (instr_at p m pc) as (λ o. instr_at p m pc ≡ o → IsSome o → IfSome o (λ i. Err why ≡ rule p m pc sh i) → Fails p m pc sh why) [
@@ -57,32 +57,32 @@ has_failed p m pc sh why some h =
 
 -- ---- of what the rule answers
 
-pub rule_flows : (p : Image) (m pc : ℕ) (sh : Shape) (r : Result Ruled Why) → IsSome (instr_at p m pc)
-    → IfSome (instr_at p m pc) (λ i. told sh.entries r ≡ rule p m pc sh i) → IfOk r (λ flow. Flows p m pc sh (ways_from sh.entries flow))
+pub rule_flows : (p : Image) (m pc : ℕ) (sh : AbstractState) (r : Result Ruled Reason) → IsSome (instr_at p m pc)
+    → IfSome (instr_at p m pc) (λ i. reported sh.entries r ≡ rule p m pc sh i) → IfOk r (λ flow. Flows p m pc sh (ways_from sh.entries flow))
 rule_flows p m pc sh (Ok flow) some h = has_flows p m pc sh (ways_from sh.entries flow) some h
 rule_flows p m pc sh (Err why) some h = tt
 
-pub rule_fails : (p : Image) (m pc : ℕ) (sh : Shape) (r : Result Ruled Why) → IsSome (instr_at p m pc)
-    → IfSome (instr_at p m pc) (λ i. told sh.entries r ≡ rule p m pc sh i) → IfErr r (λ why. Fails p m pc sh why)
+pub rule_fails : (p : Image) (m pc : ℕ) (sh : AbstractState) (r : Result Ruled Reason) → IsSome (instr_at p m pc)
+    → IfSome (instr_at p m pc) (λ i. reported sh.entries r ≡ rule p m pc sh i) → IfErr r (λ why. Fails p m pc sh why)
 rule_fails p m pc sh (Ok flow) some h = tt
 rule_fails p m pc sh (Err why) some h = has_failed p m pc sh why some h
 
 -- ---- within the method
 
-null_within : (p : Image) (m n pc : ℕ) (sh : Shape) (k : Kind) (a to : ℕ) → to < n → suc pc < n → AllWithin n (flow_jump_null p m pc sh k a to)
+null_within : (p : Image) (m n pc : ℕ) (sh : AbstractState) (k : Kind) (a to : ℕ) → to < n → suc pc < n → AllWithin n (flow_jump_null p m pc sh k a to)
 null_within p m n pc sh kinds.Unset a to h next = tt
 null_within p m n pc sh kinds.Word a to h next = tt
 null_within p m n pc sh kinds.Null a to h next = (h, tt)
 null_within p m n pc sh (kinds.Own t age) a to h next = (next, tt)
 null_within p m n pc sh (kinds.Maybe t age) a to h next = (next, (h, tt))
 
-empty_within : (p : Image) (m n pc : ℕ) (sh : Shape) (x : Filling) (f to : ℕ) → to < n → suc pc < n → AllWithin n (flow_jump_empty p m pc sh x f to)
-empty_within p m n pc sh fillings.Empty f to h next = (h, tt)
-empty_within p m n pc sh fillings.Full f to h next = (next, tt)
-empty_within p m n pc sh fillings.Perhaps f to h next = (next, (h, tt))
+empty_within : (p : Image) (m n pc : ℕ) (sh : AbstractState) (x : FieldState) (f to : ℕ) → to < n → suc pc < n → AllWithin n (flow_jump_empty p m pc sh x f to)
+empty_within p m n pc sh field_states.Empty f to h next = (h, tt)
+empty_within p m n pc sh field_states.Full f to h next = (next, tt)
+empty_within p m n pc sh field_states.Perhaps f to h next = (next, (h, tt))
 
 -- the flows of an instruction that keeps within its method
-flows_within : (p : Image) (m n pc : ℕ) (sh : Shape) (i : Instr) → KeepsWithin n pc i → IfSome (back_of i) (λ t. t < n) → AllWithin n (flows p m pc sh i)
+flows_within : (p : Image) (m n pc : ℕ) (sh : AbstractState) (i : Instr) → KeepsWithin n pc i → IfSome (back_of i) (λ t. t < n) → AllWithin n (flows p m pc sh i)
 flows_within p m n pc sh i h back = within (ways_of p i) (leads p i)
   where
     jumps : (to : ℕ) → jump_of i ≡ Some to → to < n
@@ -105,7 +105,7 @@ nest_of : (p : Image) (m : ℕ) (d : Method) → IsLinked p → method_at p m �
 unfolding method_at
 nest_of p m d linked e = at_place (λ _ x. LoopsNest x.code) p.methods m d linked.loops e
 
-pub ways_within : (p : Image) (m pc : ℕ) (sh : Shape) (ways : List Flow) → IsLinked p → Flows p m pc sh ways → WithinMethod p m ways
+pub ways_within : (p : Image) (m pc : ℕ) (sh : AbstractState) (ways : List Flow) → IsLinked p → Flows p m pc sh ways → WithinMethod p m ways
 ways_within p m pc sh ways linked h = record {
   each = λ d e.
       let w = of_method p m pc h.instr h.stands in

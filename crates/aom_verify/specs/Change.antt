@@ -1,12 +1,12 @@
 -- What a sweep changes, and why that ends: places are reached, or states fall.
 use Rattle.std.specs.Prelude.{ℕ, ◌≡◌, ◌<◌, ◌+◌, ◌-◌, ◌||◌, Option, Some, None}
 use Rattle.std.specs.List.{sum_by}
-use Rattle.aom_shape.specs.Shape.{Shape}
-use Rattle.aom_shape.specs.declared.kind.Filling.{Filling}
-use Rattle.aom_shape.specs.declared.kind.Filling.TheVariants.{Empty, Full, Perhaps}
-use Rattle.aom_shape.specs.declared.kind.Kind.{Kind}
-use Rattle.aom_shape.specs.declared.kind.Kind.TheVariants.{Unset, Word, Null, Own, Maybe}
-use Rattle.aom_typings.specs.Shapes.{Shapes}
+use Rattle.aom_abstract_state.specs.AbstractState.{AbstractState}
+use Rattle.aom_abstract_state.specs.declared.kind.FieldState.{FieldState}
+use Rattle.aom_abstract_state.specs.declared.kind.FieldState.TheVariants.{Empty, Full, Perhaps}
+use Rattle.aom_abstract_state.specs.declared.kind.Kind.{Kind}
+use Rattle.aom_abstract_state.specs.declared.kind.Kind.TheVariants.{Unset, Word, Null, Own, Maybe}
+use Rattle.aom_static_bounds.specs.Shapes.{Shapes}
 use Rattle.aom_verify.specs.declared.change.StatesChange.{StatesChange}
 use Rattle.aom_verify.specs.declared.change.StatesChange.TheVariants.{Nothing, Fell, Reached}
 use Rattle.aom_verify.specs.declared.change.Step.{Step}
@@ -19,7 +19,7 @@ kind_rank Null = 1
 kind_rank (Own t a) = 1
 kind_rank (Maybe t a) = 0
 
-abbrev pub filling_rank : Filling → ℕ
+abbrev pub filling_rank : FieldState → ℕ
 filling_rank Empty = 1
 filling_rank Full = 1
 filling_rank Perhaps = 0
@@ -28,10 +28,10 @@ filling_rank Perhaps = 0
 abbrev pub states_rank : ℕ → ℕ
 states_rank states = 256 - states
 
-abbrev pub shape_rank : Shape → ℕ
+abbrev pub shape_rank : AbstractState → ℕ
 shape_rank sh = sum_by kind_rank sh.registers + sum_by filling_rank sh.fields + states_rank sh.states
 
-abbrev pub place_rank : Option Shape → ℕ
+abbrev pub place_rank : Option AbstractState → ℕ
 place_rank None = 0
 place_rank (Some sh) = shape_rank sh
 
@@ -39,7 +39,7 @@ place_rank (Some sh) = shape_rank sh
 abbrev pub rank : Shapes → ℕ
 rank s = sum_by place_rank s
 
-abbrev pub unreached : Option Shape → ℕ
+abbrev pub unreached : Option AbstractState → ℕ
 unreached None = 1
 unreached (Some sh) = 0
 

@@ -3,17 +3,17 @@ use Rattle.std.specs.Prelude.{ℕ, ◌≡◌, ◌<◌, ◌≤◌, ◌+◌, List,
 use Rattle.aom_image.specs.Image.{Image}
 use Rattle.aom_image.specs.Views.{method_at}
 use Rattle.aom_image.specs.declared.method.Method.{Method}
-use Rattle.aom_shape.specs.Needs.{Flow}
-use Rattle.aom_shape.specs.Shape.{Shape}
+use Rattle.aom_abstract_state.specs.Needs.{Flow}
+use Rattle.aom_abstract_state.specs.AbstractState.{AbstractState}
 use Rattle.aom_roles.specs.Tables.{at}
-use Rattle.aom_typings.specs.Shapes.{Shapes}
+use Rattle.aom_static_bounds.specs.Shapes.{Shapes}
 use Rattle.aom_verify.specs.Change.{unreached_count}
 
 pub record HasFewEntries (s : Shapes) : Type 0 where
-  pub each : (pc : ℕ) (sh : Shape) → at None s pc ≡ Some sh → length sh.entries + unreached_count s < length s
+  pub each : (pc : ℕ) (sh : AbstractState) → at None s pc ≡ Some sh → length sh.entries + unreached_count s < length s
 
 -- a state that comes to a place has no more entries than there are places reached
-abbrev pub IsFew : Shapes → Shape → Type 0
+abbrev pub IsFew : Shapes → AbstractState → Type 0
 IsFew s sh = length sh.entries + unreached_count s ≤ length s
 
 abbrev pub AllFew : Shapes → List Flow → Type 0
@@ -21,5 +21,5 @@ AllFew s [] = Unit {0}
 AllFew s (way ∷ ways) = IsFew s way.1 × AllFew s ways
 
 -- fewer entries than the method has places
-pub record HasRoom (p : Image) (m : ℕ) (sh : Shape) : Type 0 where
+pub record HasRoom (p : Image) (m : ℕ) (sh : AbstractState) : Type 0 where
   pub each : (d : Method) → method_at p m ≡ Some d → length sh.entries < length d.code

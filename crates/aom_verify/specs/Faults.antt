@@ -1,8 +1,8 @@
 -- Why sweeps end early. Want of memory says nothing.
 use Rattle.std.specs.Prelude.{ℕ, ◌<◌, List, length}
 use Rattle.aom_image.specs.Image.{Image}
-use Rattle.aom_shape.specs.Needs.{Flow}
-use Rattle.aom_typings.specs.Shapes.{Shapes}
+use Rattle.aom_abstract_state.specs.Needs.{Flow}
+use Rattle.aom_static_bounds.specs.Shapes.{Shapes}
 use Rattle.aom_verify.specs.Arrivals.{JoinFails, StatesFail}
 use Rattle.aom_verify.specs.Sweep.{CannotJoin, NoTypingBelow}
 use Rattle.aom_verify.specs.declared.refusal.Refusal.{Refusal}

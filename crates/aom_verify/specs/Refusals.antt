@@ -3,8 +3,8 @@ use Rattle.std.specs.Prelude.{ℕ, ◌≡◌, ◌<◌, ◌++◌, List, IsSome, c
 use Rattle.std.specs.Fmt.{decimal}
 use Rattle.aom_image.specs.Image.{Image}
 use Rattle.aom_image.specs.Views.{method_at, instr_at}
-use Rattle.aom_shape.specs.Whys.{why_number}
-use Rattle.aom_typings.specs.Shapes.{HasTyping}
+use Rattle.aom_abstract_state.specs.Whys.{why_number}
+use Rattle.aom_static_bounds.specs.Shapes.{HasTyping}
 use Rattle.aom_verify.specs.Arrivals.{FailsFor}
 use Rattle.aom_verify.specs.declared.refusal.Refusal.{Refusal}
 use Rattle.aom_verify.specs.declared.refusal.Refusal.TheVariants.{OutOfMemory, Refused}

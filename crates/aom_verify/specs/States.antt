@@ -1,14 +1,14 @@
 -- How the states of a method are kept.
 use Rattle.std.specs.Prelude.{ℕ, ◌≡◌, List, [], ◌∷◌, Option, Some, None, ◌<◌}
-use Rattle.aom_shape.specs.Changes.{kept_shape, known_with}
-use Rattle.aom_shape.specs.Meet.{IsMeet}
-use Rattle.aom_shape.specs.Order.{SaysNoMore}
-use Rattle.aom_shape.specs.Piles.{Stands, entries_of}
-use Rattle.aom_shape.specs.Shape.{Known, Shape}
+use Rattle.aom_abstract_state.specs.Changes.{kept_shape, known_with}
+use Rattle.aom_abstract_state.specs.Meet.{IsMeet}
+use Rattle.aom_abstract_state.specs.Order.{IsImpliedBy}
+use Rattle.aom_abstract_state.specs.EntryStacks.{Stands, entries_of}
+use Rattle.aom_abstract_state.specs.AbstractState.{Known, AbstractState}
 use Rattle.aom_roles.specs.Tables.{at}
-use Rattle.aom_shape.specs.declared.piles.Node.{Node}
-use Rattle.aom_shape.specs.declared.shape.Kept.{Kept}
-use Rattle.aom_typings.specs.Shapes.{Shapes}
+use Rattle.aom_abstract_state.specs.declared.entry_stacks.Node.{Node}
+use Rattle.aom_abstract_state.specs.declared.shape.Kept.{Kept}
+use Rattle.aom_static_bounds.specs.Shapes.{Shapes}
 use Rattle.aom_verify.specs.Entries.{HasFewEntries}
 
 pub record States : Type 0 where
@@ -17,7 +17,7 @@ pub record States : Type 0 where
   -- the cleanup entries of all of them
   pub nodes : List Node
 
-abbrev pub shape_of : List Node → Option Kept → Option Shape
+abbrev pub shape_of : List Node → Option Kept → Option AbstractState
 shape_of nodes None = None
 shape_of nodes (Some kept) = Some (kept_shape nodes kept)
 
@@ -30,11 +30,11 @@ shapes s = shapes_of s.nodes s.places
 
 -- the entries of each place are there, and they are few
 pub record AreKept (nodes : List Node) (places : List (Option Kept)) : Type 0 where
-  pub stand : (pc : ℕ) (kept : Kept) → at None places pc ≡ Some kept → Stands nodes kept.pile
+  pub stand : (pc : ℕ) (kept : Kept) → at None places pc ≡ Some kept → Stands nodes kept.entry_stack
   pub few : HasFewEntries (shapes_of nodes places)
 
 -- what is known at a place once it is joined with something new: no less than before, or the meet of both
 abbrev pub Lowers : List Node → Kept → Kept → Option Known → Type 0
-Lowers nodes there new None = SaysNoMore (kept_shape nodes there) (kept_shape nodes new)
+Lowers nodes there new None = IsImpliedBy (kept_shape nodes there) (kept_shape nodes new)
 Lowers nodes there new (Some known) =
-    (¬ SaysNoMore (kept_shape nodes there) (kept_shape nodes new)) × (IsMeet (known_with known (entries_of nodes there.pile)) (kept_shape nodes there) (kept_shape nodes new) × (known.states < 256))
+    (¬ IsImpliedBy (kept_shape nodes there) (kept_shape nodes new)) × (IsMeet (known_with known (entries_of nodes there.entry_stack)) (kept_shape nodes there) (kept_shape nodes new) × (known.states < 256))

@@ -6,11 +6,11 @@ use Rattle.aom_instructions.specs.declared.instr.Instr.{Instr}
 use Rattle.aom_image.specs.declared.method.Method.{Method}
 use Rattle.aom_roles.specs.Tests.{AllTrue}
 use Rattle.aom_roles.specs.Tables.{at}
-use Rattle.aom_shape.specs.Shape.{Shape}
-use Rattle.aom_shape.specs.Needs.{Flow}
-use Rattle.aom_rules.specs.Rules.{rule_needs, flows, rule}
-use Rattle.aom_shape.specs.declared.why.Why.{Why}
-use Rattle.aom_typings.specs.Shapes.{Shapes, AllMet, IsBelow, Applies, IsMethodTyped}
+use Rattle.aom_abstract_state.specs.AbstractState.{AbstractState}
+use Rattle.aom_abstract_state.specs.Needs.{Flow}
+use Rattle.aom_typing_rules.specs.Rules.{rule_needs, flows, rule}
+use Rattle.aom_abstract_state.specs.declared.why.Reason.{Reason}
+use Rattle.aom_static_bounds.specs.Shapes.{Shapes, AllMet, IsBelow, Applies, IsMethodTyped}
 use Rattle.aom_verify.specs.Arrivals.{AllArrive, EachArrives}
 use Rattle.aom_verify.specs.Change.{IsChange, unreached_count}
 use Rattle.aom_verify.specs.declared.change.StatesChange.{StatesChange}
@@ -52,21 +52,21 @@ pub record CannotJoin (old : Shapes) (ways : List Flow) : Type 0 where
   pub none : (t : Shapes) → IsBelow t old → AllMet t ways → ⊥
 
 -- what the rule answers at a place with that state
-pub record Flows (p : Image) (m pc : ℕ) (sh : Shape) (ways : List Flow) : Type 0 where
+pub record Flows (p : Image) (m pc : ℕ) (sh : AbstractState) (ways : List Flow) : Type 0 where
   pub instr : Instr
   pub stands : instr_at p m pc ≡ Some instr
   pub needs : AllTrue (rule_needs p m pc sh instr)
   pub is : ways ≡ flows p m pc sh instr
 
 -- the rule does not apply there, and that is its first need that is not met
-pub record Fails (p : Image) (m pc : ℕ) (sh : Shape) (why : Why) : Type 0 where
+pub record Fails (p : Image) (m pc : ℕ) (sh : AbstractState) (why : Reason) : Type 0 where
   pub instr : Instr
   pub stands : instr_at p m pc ≡ Some instr
   pub unmet : ¬ AllTrue (rule_needs p m pc sh instr)
   pub is : rule p m pc sh instr ≡ Err why
 
 -- the new states say no more than the old ones and arrive if those do, and a typing that says no more than the old ones says no more than the new ones
-pub record Keeps (p : Image) (m : ℕ) (old new : Shapes) : Type 0 where
+pub record SweepInvariant (p : Image) (m : ℕ) (old new : Shapes) : Type 0 where
   pub size : length new ≡ length old
   pub below_old : IsBelow new old
   pub arrives : AllArrive p m old → AllArrive p m new
@@ -74,7 +74,7 @@ pub record Keeps (p : Image) (m : ℕ) (old new : Shapes) : Type 0 where
 
 -- the rule applies to the state at that place, if it is reached
 abbrev pub AppliesAt : Image → ℕ → Shapes → ℕ → Type 0
-AppliesAt p m s pc = (sh : Shape) → at None s pc ≡ Some sh → Applies p m s pc sh
+AppliesAt p m s pc = (sh : AbstractState) → at None s pc ≡ Some sh → Applies p m s pc sh
 
 -- the rule applies at each place that is not stale
 pub record AreWorked (p : Image) (m : ℕ) (s : Shapes) (stale : List Bool) : Type 0 where
@@ -99,14 +99,14 @@ pub record IsAhead (seen : ℕ) (old new : Shapes) (step : Step) : Type 0 where
 
 -- one place was visited
 pub record Visits (p : Image) (m : ℕ) (old new : Shapes) (pc : ℕ) (step : Step) : Type 0 where
-  pub keeps : Keeps p m old new
+  pub keeps : SweepInvariant p m old new
   pub changed : IsChange old new step.change
   pub ahead : IsAhead pc old new step
   pub applies : step.is_behind ≡ false → AppliesAt p m new pc
 
 -- the places below a count were visited
 pub record Sweeps (p : Image) (m : ℕ) (old new : Shapes) (count : ℕ) (step : Step) : Type 0 where
-  pub keeps : Keeps p m old new
+  pub keeps : SweepInvariant p m old new
   pub changed : IsChange old new step.change
   pub nothing : step.change ≡ Nothing → step.is_behind ≡ false
   -- where none of them changed once the sweep had come to it
@@ -118,12 +118,12 @@ SweptOn p m old new true = unreached_count new < unreached_count old
 SweptOn p m old new false = (pc : ℕ) → pc < length new → AppliesAt p m new pc
 
 pub record SweepsOn (p : Image) (m : ℕ) (old new : Shapes) (reached : Bool) : Type 0 where
-  pub keeps : Keeps p m old new
+  pub keeps : SweepInvariant p m old new
   pub swept : SweptOn p m old new reached
 
 -- the rule applies at each place that is reached
 pub record Settles (p : Image) (m : ℕ) (old new : Shapes) : Type 0 where
-  pub keeps : Keeps p m old new
+  pub keeps : SweepInvariant p m old new
   pub applies : (pc : ℕ) → pc < length new → AppliesAt p m new pc
 
 -- no typing of the method says no more than the states

@@ -9,14 +9,14 @@
 mod change;
 mod checked;
 mod refusal;
-mod sheet;
 mod stale;
+mod state_table;
 mod states;
 mod stop;
 mod view;
 
 pub use checked::{Checked, check};
 pub use refusal::Refusal;
-pub use sheet::Sheet;
+pub use state_table::StateTable;
 pub use stop::{Stop, stop_of};
-pub use view::ShapeView;
+pub use view::AbstractStateView;

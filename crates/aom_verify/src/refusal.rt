@@ -1,8 +1,8 @@
 //! Why an image is refused.
 ghost use Rattle.std.specs.Prelude.{◌≡◌};
 
+use aom_abstract_state::Reason;
 use aom_image::MethodNumber;
-use aom_shape::Why;
 use std::alloc::AllocError;
 use thiserror::Error;
 
@@ -16,7 +16,7 @@ pub enum Refusal {
     Refused {
         method: MethodNumber,
         place: usize,
-        why: Why,
+        why: Reason,
     },
 }
 

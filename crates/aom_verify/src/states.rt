@@ -1,11 +1,11 @@
 //! The abstract states of one method, by place, and the sweeps that find them.
 ghost use Rattle.std.specs.Prelude.{◌≡◌, ◌<◌, suc, [], ◌∷◌, length, replicate, slice_set, IfOk, IfErr, IfSome, IsSome, Some, None};
 ghost use Rattle.aom_image.specs.Views.{instr_at};
-ghost use Rattle.aom_shape.specs.Changes.{changed, kept_shape, known_with, leads_both, leads_to, ways_from};
-ghost use Rattle.aom_rules.specs.Laws.{HaveAtMost};
-ghost use Rattle.aom_shape.specs.Meet.{NoMeet, WhyNoMeet};
-ghost use Rattle.aom_shape.specs.Piles.{Stands, entries_of};
-ghost use Rattle.aom_rules.specs.Rules.{rule};
+ghost use Rattle.aom_abstract_state.specs.Changes.{changed, kept_shape, known_with, leads_both, leads_to, ways_from};
+ghost use Rattle.aom_typing_rules.specs.Laws.{HaveAtMost};
+ghost use Rattle.aom_abstract_state.specs.Meet.{NoMeet, ReasonNoMeet};
+ghost use Rattle.aom_abstract_state.specs.EntryStacks.{Stands, entries_of};
+ghost use Rattle.aom_typing_rules.specs.Rules.{rule};
 ghost use Rattle.aom_roles.specs.Tables.{at};
 ghost use Rattle.aom_verify.specs.Entries.{IsFew, AllFew, HasRoom};
 ghost use Rattle.aom_verify.specs.Faults.{JoinStops, Stops, refusal_of};
@@ -15,14 +15,14 @@ ghost use Rattle.aom_verify.specs.Sweep.{AreWorked, Marks, Spans, AllWithin, Joi
 use crate::Refusal;
 use crate::change::{StatesChange, Step};
 use crate::stale::Stale;
-use crate::view::ShapeView;
-use aom_image::MethodNumber;
-use aom_linked::Linked;
-use aom_ruling::rule;
-use aom_shape::{
-    Change as EntriesChange, Flow, Kept, Known, Pile, Piles, Shape, Way, Why, meet_kept,
-    weaker_kept,
+use crate::view::AbstractStateView;
+use aom_abstract_state::{
+    AbstractState, Change as EntriesChange, EntryStack, EntryStacks, Flow, FlowEdge, Kept, Known,
+    Reason, meet_kept, weaker_kept,
 };
+use aom_image::MethodNumber;
+use aom_linker::Linked;
+use aom_rule_functions::rule;
 use std::alloc::{AllocError, Global};
 use std::marker::Model;
 
@@ -31,7 +31,7 @@ use std::marker::Model;
 pub(crate) enum SweepFault {
     OutOfMemory,
     /// Where a rule or a meet fails.
-    At { place: usize, why: Why },
+    At { place: usize, why: Reason },
 }
 
 impl From<AllocError> for SweepFault {
@@ -60,7 +60,7 @@ impl SweepFault {
 #[derive(Drop)]
 pub(crate) struct PlaceStates {
     places: Vec<Option<Kept>>,
-    piles: Piles,
+    entry_stacks: EntryStacks,
 }
 
 impl Model for PlaceStates {
@@ -68,9 +68,9 @@ impl Model for PlaceStates {
 
     ghost Value = { StatesRecord };
 
-    ghost view = { λ s. record { places = s.places.items; nodes = s.piles } };
+    ghost view = { λ s. record { places = s.places.items; nodes = s.entry_stacks } };
 
-    ghost invariant = { λ s. AreKept s.piles s.places.items };
+    ghost invariant = { λ s. AreKept s.entry_stacks s.places.items };
 }
 
 impl PlaceStates {
@@ -82,11 +82,11 @@ impl PlaceStates {
         let mut places = vec![in alloc; None; count]?;
         places[0] = Some(Kept {
             known: entry,
-            pile: Pile::none(),
+            entry_stack: EntryStack::none(),
         });
         Ok(PlaceStates {
             places,
-            piles: Piles::new(alloc),
+            entry_stacks: EntryStacks::new(alloc),
         })
     }
 
@@ -98,7 +98,7 @@ impl PlaceStates {
     }
 
     /// The state at a place, if that is a place that is reached.
-    pub(crate) fn shape(&self, place: usize) -> Option<Shape<'_>>
+    pub(crate) fn shape(&self, place: usize) -> Option<AbstractState<'_>>
         ensures { result ≡ at None (shapes self.now) place }
     {
         if self.len() <= place {
@@ -106,12 +106,12 @@ impl PlaceStates {
         }
         match self.kept_at(place) {
             None => None,
-            Some(kept) => Some(kept.shape(&self.piles)),
+            Some(kept) => Some(kept.shape(&self.entry_stacks)),
         }
     }
 
     /// The same, read where it stands.
-    pub(crate) fn view(&self, place: usize) -> Option<ShapeView<'_>>
+    pub(crate) fn view(&self, place: usize) -> Option<AbstractStateView<'_>>
         ensures { result ≡ at None (shapes self.now) place }
     {
         if self.len() <= place {
@@ -119,26 +119,30 @@ impl PlaceStates {
         }
         match &self.places[place] {
             None => None,
-            Some(kept) => Some(ShapeView::new(kept, &self.piles)),
+            Some(kept) => Some(AbstractStateView::new(kept, &self.entry_stacks)),
         }
     }
 
     /// The entries after a change. The states stay as they are.
-    fn changed(&mut self, pile: Pile, change: EntriesChange) -> Result<Pile, AllocError>
-        requires stands { Stands self.old.nodes pile }
-        requires room { length (entries_of self.old.nodes pile) < 1024 }
+    fn changed(
+        &mut self,
+        entry_stack: EntryStack,
+        change: EntriesChange,
+    ) -> Result<EntryStack, AllocError>
+        requires stands { Stands self.old.nodes entry_stack }
+        requires room { length (entries_of self.old.nodes entry_stack) < 1024 }
         ensures same { shapes self.new ≡ shapes self.old }
         ensures stands { IfOk result (λ p. Stands self.new.nodes p) }
-        ensures value { IfOk result (λ p. entries_of self.new.nodes p ≡ changed change (entries_of self.old.nodes pile)) }
+        ensures value { IfOk result (λ p. entries_of self.new.nodes p ≡ changed change (entries_of self.old.nodes entry_stack)) }
     {
-        self.piles.changed(pile, change)
+        self.entry_stacks.changed(entry_stack, change)
     }
 
     /// What is known at a place from one flow to it.
     fn join(&mut self, to: usize, new: Kept) -> Result<StatesChange, SweepFault>
         requires within { to < length (shapes self.old) }
         requires few { IsFew (shapes self.old) (kept_shape self.old.nodes new) }
-        requires stands { Stands self.old.nodes new.pile }
+        requires stands { Stands self.old.nodes new.entry_stack }
         ensures nodes { self.new.nodes ≡ self.old.nodes }
         ensures ok { IfOk result (λ change. Joins (shapes self.old) (shapes self.new) ((to, kept_shape self.old.nodes new) ∷ []) change) }
         ensures others { IfOk result (λ change. SameBut to (shapes self.old) (shapes self.new)) }
@@ -148,11 +152,11 @@ impl PlaceStates {
             self.places[to] = Some(new);
             return Ok(StatesChange::Reached);
         };
-        match lowered(&self.piles, &there, &new) {
+        match lowered(&self.entry_stacks, &there, &new) {
             Ok(None) => Ok(StatesChange::Nothing),
             Ok(Some(known)) => {
-                let pile = there.pile;
-                self.places[to] = Some(Kept { known, pile });
+                let entry_stack = there.entry_stack;
+                self.places[to] = Some(Kept { known, entry_stack });
                 Ok(StatesChange::Fell)
             }
             Err(why) => Err(SweepFault::At { place: to, why }),
@@ -164,22 +168,22 @@ impl PlaceStates {
     fn join_perhaps(
         &mut self,
         stale: &mut Stale,
-        way: &Option<Way>,
-        pile: Pile,
+        way: &Option<FlowEdge>,
+        entry_stack: EntryStack,
         seen: usize,
     ) -> Result<Step, SweepFault>
-        requires within { AllWithin (length (shapes self.old)) (leads_to (entries_of self.old.nodes pile) way.now) }
-        requires few { AllFew (shapes self.old) (leads_to (entries_of self.old.nodes pile) way.now) }
-        requires stands { Stands self.old.nodes pile }
+        requires within { AllWithin (length (shapes self.old)) (leads_to (entries_of self.old.nodes entry_stack) way.now) }
+        requires few { AllFew (shapes self.old) (leads_to (entries_of self.old.nodes entry_stack) way.now) }
+        requires stands { Stands self.old.nodes entry_stack }
         ensures nodes { self.new.nodes ≡ self.old.nodes }
-        ensures ok { IfOk result (λ step. Joins (shapes self.old) (shapes self.new) (leads_to (entries_of self.old.nodes pile) way.now) step.change × IsAhead seen (shapes self.old) (shapes self.new) step × Marks (shapes self.old) (shapes self.new) stale.old stale.new) }
-        ensures err { IfErr result (λ fault. JoinStops (shapes self.old) (shapes self.new) (leads_to (entries_of self.old.nodes pile) way.now) fault) }
+        ensures ok { IfOk result (λ step. Joins (shapes self.old) (shapes self.new) (leads_to (entries_of self.old.nodes entry_stack) way.now) step.change × IsAhead seen (shapes self.old) (shapes self.new) step × Marks (shapes self.old) (shapes self.new) stale.old stale.new) }
+        ensures err { IfErr result (λ fault. JoinStops (shapes self.old) (shapes self.new) (leads_to (entries_of self.old.nodes entry_stack) way.now) fault) }
     {
         match way {
             None => Ok(Step::nothing()),
             Some(way) => {
                 let known = way.known;
-                let change = self.join(way.to, Kept { known, pile })?;
+                let change = self.join(way.to, Kept { known, entry_stack })?;
                 stale.mark(way.to, change);
                 Ok(Step::at(way.to, seen, change))
             }
@@ -190,17 +194,17 @@ impl PlaceStates {
         &mut self,
         stale: &mut Stale,
         flow: &Flow,
-        pile: Pile,
+        entry_stack: EntryStack,
         seen: usize,
     ) -> Result<Step, SweepFault>
-        requires within { AllWithin (length (shapes self.old)) (leads_both (entries_of self.old.nodes pile) flow.now) }
-        requires few { AllFew (shapes self.old) (leads_both (entries_of self.old.nodes pile) flow.now) }
-        requires stands { Stands self.old.nodes pile }
-        ensures ok { IfOk result (λ step. Joins (shapes self.old) (shapes self.new) (leads_both (entries_of self.old.nodes pile) flow.now) step.change × IsAhead seen (shapes self.old) (shapes self.new) step × Marks (shapes self.old) (shapes self.new) stale.old stale.new) }
-        ensures err { IfErr result (λ fault. JoinStops (shapes self.old) (shapes self.new) (leads_both (entries_of self.old.nodes pile) flow.now) fault) }
+        requires within { AllWithin (length (shapes self.old)) (leads_both (entries_of self.old.nodes entry_stack) flow.now) }
+        requires few { AllFew (shapes self.old) (leads_both (entries_of self.old.nodes entry_stack) flow.now) }
+        requires stands { Stands self.old.nodes entry_stack }
+        ensures ok { IfOk result (λ step. Joins (shapes self.old) (shapes self.new) (leads_both (entries_of self.old.nodes entry_stack) flow.now) step.change × IsAhead seen (shapes self.old) (shapes self.new) step × Marks (shapes self.old) (shapes self.new) stale.old stale.new) }
+        ensures err { IfErr result (λ fault. JoinStops (shapes self.old) (shapes self.new) (leads_both (entries_of self.old.nodes entry_stack) flow.now) fault) }
     {
-        let first = self.join_perhaps(stale, &flow.first, pile, seen)?;
-        let second = self.join_perhaps(stale, &flow.second, pile, seen)?;
+        let first = self.join_perhaps(stale, &flow.first, entry_stack, seen)?;
+        let second = self.join_perhaps(stale, &flow.second, entry_stack, seen)?;
         Ok(first.then(second))
     }
 
@@ -208,18 +212,18 @@ impl PlaceStates {
     fn follow(
         &mut self,
         stale: &mut Stale,
-        pile: Pile,
+        entry_stack: EntryStack,
         flow: &Flow,
         seen: usize,
     ) -> Result<Step, SweepFault>
-        requires within { AllWithin (length (shapes self.old)) (ways_from (entries_of self.old.nodes pile) flow.now) }
-        requires few { AllFew (shapes self.old) (ways_from (entries_of self.old.nodes pile) flow.now) }
-        requires stands { Stands self.old.nodes pile }
-        requires room { length (entries_of self.old.nodes pile) < 1024 }
-        ensures ok { IfOk result (λ step. Joins (shapes self.old) (shapes self.new) (ways_from (entries_of self.old.nodes pile) flow.now) step.change × IsAhead seen (shapes self.old) (shapes self.new) step × Marks (shapes self.old) (shapes self.new) stale.old stale.new) }
-        ensures err { IfErr result (λ fault. JoinStops (shapes self.old) (shapes self.new) (ways_from (entries_of self.old.nodes pile) flow.now) fault) }
+        requires within { AllWithin (length (shapes self.old)) (ways_from (entries_of self.old.nodes entry_stack) flow.now) }
+        requires few { AllFew (shapes self.old) (ways_from (entries_of self.old.nodes entry_stack) flow.now) }
+        requires stands { Stands self.old.nodes entry_stack }
+        requires room { length (entries_of self.old.nodes entry_stack) < 1024 }
+        ensures ok { IfOk result (λ step. Joins (shapes self.old) (shapes self.new) (ways_from (entries_of self.old.nodes entry_stack) flow.now) step.change × IsAhead seen (shapes self.old) (shapes self.new) step × Marks (shapes self.old) (shapes self.new) stale.old stale.new) }
+        ensures err { IfErr result (λ fault. JoinStops (shapes self.old) (shapes self.new) (ways_from (entries_of self.old.nodes entry_stack) flow.now) fault) }
     {
-        let after = self.changed(pile, flow.change)?;
+        let after = self.changed(entry_stack, flow.change)?;
         self.join_all(stale, flow, after, seen)
     }
 
@@ -245,9 +249,9 @@ impl PlaceStates {
         match self.kept_at(place) {
             None => Ok(Step::nothing()),
             Some(kept) => {
-                let ruled = flow_of(linked, method, place, &kept.shape(&self.piles));
+                let ruled = flow_of(linked, method, place, &kept.shape(&self.entry_stacks));
                 match &ruled {
-                    Ok(flow) => self.follow(stale, kept.pile, flow, place),
+                    Ok(flow) => self.follow(stale, kept.entry_stack, flow, place),
                     Err(why) => Err(SweepFault::At { place, why: *why }),
                 }
             }
@@ -258,7 +262,7 @@ impl PlaceStates {
     fn kept_at(&self, place: usize) -> Option<Kept>
         requires { place < length (shapes self.now) }
         ensures shape { shape_of self.now.nodes result ≡ at None (shapes self.now) place }
-        ensures stands { IfSome result (λ kept. Stands self.now.nodes kept.pile) }
+        ensures stands { IfSome result (λ kept. Stands self.now.nodes kept.entry_stack) }
     {
         self.places[place]
     }
@@ -310,7 +314,7 @@ impl PlaceStates {
     }
 
     /// Sweeps until one leaves nothing to do.
-    pub(crate) fn settle(
+    pub(crate) fn sweep_to_fixpoint(
         &mut self,
         alloc: Global,
         linked: &Linked,
@@ -331,8 +335,8 @@ fn flow_of(
     linked: &Linked,
     method: MethodNumber,
     place: usize,
-    shape: &Shape<'_>,
-) -> Result<Flow, Why>
+    shape: &AbstractState<'_>,
+) -> Result<Flow, Reason>
     requires instr { IsSome (instr_at linked.now method place) }
     requires room { HasRoom linked.now method shape.now }
     ensures ok { IfOk result (λ flow. Flows linked.now method place shape.now (ways_from shape.now.entries flow)) }
@@ -347,14 +351,14 @@ fn flow_of(
 }
 
 /// What is known at a place once something new comes there, if that is less than before.
-fn lowered(piles: &Piles, there: &Kept, new: &Kept) -> Result<Option<Known>, Why>
-    ensures ok { IfOk result (λ less. Lowers piles.now there.now new.now less) }
-    ensures err { IfErr result (λ why. NoMeet (kept_shape piles.now there.now) (kept_shape piles.now new.now) × WhyNoMeet (kept_shape piles.now there.now) (kept_shape piles.now new.now) why) }
+fn lowered(entry_stacks: &EntryStacks, there: &Kept, new: &Kept) -> Result<Option<Known>, Reason>
+    ensures ok { IfOk result (λ less. Lowers entry_stacks.now there.now new.now less) }
+    ensures err { IfErr result (λ why. NoMeet (kept_shape entry_stacks.now there.now) (kept_shape entry_stacks.now new.now) × ReasonNoMeet (kept_shape entry_stacks.now there.now) (kept_shape entry_stacks.now new.now) why) }
 {
-    if weaker_kept(piles, there, new) {
+    if weaker_kept(entry_stacks, there, new) {
         return Ok(None);
     }
-    match meet_kept(piles, there, new) {
+    match meet_kept(entry_stacks, there, new) {
         Ok(less) => Ok(Some(less)),
         Err(why) => Err(why),
     }

@@ -1,33 +1,33 @@
 //! The state at a place, read where it stands.
 ghost use Rattle.std.specs.Prelude.{◌≡◌, length};
-ghost use Rattle.aom_shape.specs.Changes.{kept_shape};
-ghost use Rattle.aom_shape.specs.Kinds.{field, register};
+ghost use Rattle.aom_abstract_state.specs.Changes.{kept_shape};
+ghost use Rattle.aom_abstract_state.specs.Kinds.{field, register};
 
+use aom_abstract_state::{EntryStacks, FieldState, Kept, Kind};
 use aom_image::{FieldIndex, Register, States};
-use aom_shape::{Filling, Kept, Kind, Piles};
 use std::marker::Model;
 
-/// A state as it is kept: unlike a `Shape`, no copy is made of it.
+/// A state as it is kept: unlike a `AbstractState`, no copy is made of it.
 #[derive(Drop)]
-pub struct ShapeView<'a> {
+pub struct AbstractStateView<'a> {
     kept: &'a Kept,
-    piles: &'a Piles,
+    entry_stacks: &'a EntryStacks,
 }
 
-impl<'a> Model for ShapeView<'a> {
-    ghost use Rattle.aom_shape.specs.Changes.{kept_shape};
-    ghost use Rattle.aom_shape.specs.Shape.{Shape as ShapeRecord};
+impl<'a> Model for AbstractStateView<'a> {
+    ghost use Rattle.aom_abstract_state.specs.Changes.{kept_shape};
+    ghost use Rattle.aom_abstract_state.specs.AbstractState.{AbstractState as ShapeRecord};
 
     ghost Value = { ShapeRecord };
 
-    ghost view = { λ s. kept_shape s.piles.now s.kept.now };
+    ghost view = { λ s. kept_shape s.entry_stacks.now s.kept.now };
 }
 
-impl<'a> ShapeView<'a> {
-    pub(crate) fn new(kept: &'a Kept, piles: &'a Piles) -> ShapeView<'a>
-        ensures { result ≡ kept_shape piles.now kept.now }
+impl<'a> AbstractStateView<'a> {
+    pub(crate) fn new(kept: &'a Kept, entry_stacks: &'a EntryStacks) -> AbstractStateView<'a>
+        ensures { result ≡ kept_shape entry_stacks.now kept.now }
     {
-        ShapeView { kept, piles }
+        AbstractStateView { kept, entry_stacks }
     }
 
     pub fn register(&self, number: Register) -> Kind
@@ -36,7 +36,7 @@ impl<'a> ShapeView<'a> {
         self.kept.known.kind_at(number.number() as usize)
     }
 
-    pub fn field(&self, number: FieldIndex) -> Filling
+    pub fn field(&self, number: FieldIndex) -> FieldState
         ensures { result ≡ field self.now number }
     {
         self.kept.known.field(number)
@@ -54,6 +54,6 @@ impl<'a> ShapeView<'a> {
     pub fn height(&self) -> usize
         ensures { result ≡ length self.now.entries }
     {
-        self.kept.pile.height()
+        self.kept.entry_stack.height()
     }
 }

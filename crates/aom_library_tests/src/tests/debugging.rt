@@ -1,5 +1,5 @@
 //! A program that steps through a run with the debugger.
-use super::slate::Slate;
+use super::memory_sink::MemorySink;
 use aom_library::commands::{ExitStatus, asm_bytes, debug_bytes};
 use aom_library::debug::Reader;
 use aom_library::natives::Native;
@@ -41,7 +41,7 @@ cells
 go
 ";
 
-const TOLD: &str = "\
+const REPORTED: &str = "\
 @0 main
 at 0 1
 reg 0 r0 0
@@ -56,9 +56,9 @@ ended
 #[test]
 fn a_run_is_stepped_through(rt: HostRuntime) -> Result<(), Fail> {
     let alloc = rt.alloc();
-    let mut image = Slate::new(alloc);
-    let mut out = Slate::new(alloc);
-    let mut errors = Slate::new(alloc);
+    let mut image = MemorySink::new(alloc);
+    let mut out = MemorySink::new(alloc);
+    let mut errors = MemorySink::new(alloc);
     let made = asm_bytes(alloc, TEXT.as_bytes(), &mut image, &mut errors);
     assert!(rt; made == ExitStatus::Done);
     let boxes: Vec<Box<dyn Native>> = Vec::new(alloc);
@@ -77,7 +77,7 @@ fn a_run_is_stepped_through(rt: HostRuntime) -> Result<(), Fail> {
         &mut errors,
     );
     assert!(rt; status == ExitStatus::Done);
-    assert!(rt; out.text.as_slice() == TOLD.as_bytes());
+    assert!(rt; out.text.as_slice() == REPORTED.as_bytes());
     assert!(rt; errors.text.is_empty());
     Ok(())
 }

@@ -13,8 +13,8 @@ fn writes(rt: &impl Abort, alloc: Global, fault: &WordsFault, text: &str) -> Res
 
 #[test]
 fn a_fault_of_the_words_writes_its_text(rt: HostRuntime) -> Result<(), Fail> {
-    let told = WordsFault::Text(String::from_str(rt.alloc(), "no such command")?);
-    writes(&rt, rt.alloc(), &told, "no such command")?;
+    let reported = WordsFault::Text(String::from_str(rt.alloc(), "no such command")?);
+    writes(&rt, rt.alloc(), &reported, "no such command")?;
     writes(&rt, rt.alloc(), &WordsFault::Native, "native")?;
     writes(&rt, rt.alloc(), &WordsFault::Memory, "memory")
 }

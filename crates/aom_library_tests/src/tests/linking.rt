@@ -41,7 +41,7 @@ end
 ";
 
 /// Where the image of a text fails the first condition that it fails.
-fn place_told(alloc: Global, text: &[u8]) -> Option<LinkPlace> {
+fn place_reported(alloc: Global, text: &[u8]) -> Option<LinkPlace> {
     let image = assemble(alloc, text).ok()?;
     let fault = check_conditions(&image).err()?;
     link_place(&image, fault)
@@ -56,21 +56,21 @@ fn numbers(place: LinkPlace) -> (char, u16, usize) {
     }
 }
 
-fn tells(
+fn reports(
     rt: &impl Abort,
     alloc: Global,
     text: &str,
-    told: Option<(char, u16, usize)>,
+    reported: Option<(char, u16, usize)>,
 ) -> Result<(), Fail> {
-    let place = place_told(alloc, text.as_bytes()).map(numbers);
-    assert!(rt; place == told, "{text}");
+    let place = place_reported(alloc, text.as_bytes()).map(numbers);
+    assert!(rt; place == reported, "{text}");
     Ok(())
 }
 
 #[test]
 fn a_fault_of_linking_has_a_place(rt: HostRuntime) -> Result<(), Fail> {
-    tells(&rt, rt.alloc(), JUMPS_BACK, Some(('i', 0, 2)))?;
-    tells(&rt, rt.alloc(), LACKS_A_DESTRUCTOR, Some(('c', 1, 0)))?;
-    tells(&rt, rt.alloc(), SECOND_MAIN, Some(('m', 1, 0)))?;
-    tells(&rt, rt.alloc(), LINKED, None)
+    reports(&rt, rt.alloc(), JUMPS_BACK, Some(('i', 0, 2)))?;
+    reports(&rt, rt.alloc(), LACKS_A_DESTRUCTOR, Some(('c', 1, 0)))?;
+    reports(&rt, rt.alloc(), SECOND_MAIN, Some(('m', 1, 0)))?;
+    reports(&rt, rt.alloc(), LINKED, None)
 }

@@ -1,7 +1,7 @@
 //! A program that checks an image, and runs it beside a native of its own.
 ghost use Rattle.std.specs.Prelude.{pos, negsuc, ◌≡◌, [], option_to_list};
 
-use super::slate::Slate;
+use super::memory_sink::MemorySink;
 use aom_library::commands::{ExitStatus, asm_bytes, check_bytes, run_bytes};
 use aom_library::natives::Native;
 use std::alloc::Global;
@@ -82,9 +82,9 @@ method main main leaves;newl r0 N;push r0;call c0 n;pop r0;put f0 r0;ret;end
 
 /// The bytes of the image of the text, which is accepted.
 fn accepted(alloc: Global) -> Option<Vec<u8>> {
-    let mut image = Slate::new(alloc);
-    let mut out = Slate::new(alloc);
-    let mut errors = Slate::new(alloc);
+    let mut image = MemorySink::new(alloc);
+    let mut out = MemorySink::new(alloc);
+    let mut errors = MemorySink::new(alloc);
     let made = asm_bytes(alloc, TEXT.as_bytes(), &mut image, &mut errors);
     if made != ExitStatus::Done {
         return None;
@@ -101,8 +101,8 @@ fn an_image_runs_beside_a_native_of_ones_own(rt: HostRuntime) -> Result<(), Fail
     let image = accepted(alloc);
     assert!(rt; image.is_some());
     let image = image.unwrap_or(Vec::new(alloc));
-    let mut out = Slate::new(alloc);
-    let mut errors = Slate::new(alloc);
+    let mut out = MemorySink::new(alloc);
+    let mut errors = MemorySink::new(alloc);
     let mut boxes: Vec<Box<dyn Native>> = Vec::with_capacity(alloc, 1)?;
     boxes.push(Box::new(alloc, Door::new())?)?;
     let status = run_bytes(

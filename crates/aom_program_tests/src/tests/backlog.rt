@@ -115,7 +115,12 @@ impl Native for Backlog {
 }
 
 /// Two objects run under a script beside a backlog, which is dropped once, and tell that.
-fn serves_backlog(rt: &impl Abort, alloc: Global, script: &str, told: &[u8]) -> Result<(), Fail> {
+fn serves_backlog(
+    rt: &impl Abort,
+    alloc: Global,
+    script: &str,
+    reported: &[u8],
+) -> Result<(), Fail> {
     let drops = Rc::new(alloc, Cell::new(0))?;
     serves_beside(
         rt,
@@ -124,14 +129,14 @@ fn serves_backlog(rt: &impl Abort, alloc: Global, script: &str, told: &[u8]) -> 
         &[TWO_SENSORS],
         script,
         ExitStatus::Unfinished,
-        told,
+        reported,
     )?;
     assert!(rt; drops.get() == 1);
     Ok(())
 }
 
 /// Scripts, and what a run under each tells.
-const TOLD: [(&str, &[u8]); 3] = [
+const REPORTED: [(&str, &[u8]); 3] = [
     // Every second request is refused at once, and the others are completed later, until the native is killed.
     (
         "5 kill 0",
@@ -151,8 +156,8 @@ const TOLD: [(&str, &[u8]); 3] = [
 
 #[test]
 fn a_box_completes_what_it_owes_and_is_dropped_once(rt: HostRuntime) -> Result<(), Fail> {
-    for (script, told) in &TOLD {
-        serves_backlog(&rt, rt.alloc(), script, told)?;
+    for (script, reported) in &REPORTED {
+        serves_backlog(&rt, rt.alloc(), script, reported)?;
     }
     Ok(())
 }

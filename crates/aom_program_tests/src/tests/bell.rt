@@ -73,7 +73,7 @@ impl Native for Bell {
 /// The second of two objects is refused as long as the bell owes something.
 #[test]
 fn a_bell_rings_once_it_was_pressed(rt: HostRuntime) -> Result<(), Fail> {
-    let told =
+    let reported =
         b"@0 main\n@1 run 0 -16\nout -16\n@2 run 0 -16\nout -16\n@3 run 0 3\nout 3\n@4 run 0 3\nout 3\nend waiting cells 3\n";
     serves_beside(
         &rt,
@@ -82,6 +82,6 @@ fn a_bell_rings_once_it_was_pressed(rt: HostRuntime) -> Result<(), Fail> {
         &[TWO_SENSORS],
         "3 event 0 3",
         ExitStatus::Unfinished,
-        told,
+        reported,
     )
 }

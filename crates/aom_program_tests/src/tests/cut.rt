@@ -1,5 +1,5 @@
 //! Outputs that fail: what is out then is a beginning of what would have been written, and the fault is told.
-use super::pages::{Case, CommandCall, FIRST, SHORT, all_tell, assembled, is_told, tells};
+use super::pages::{Case, CommandCall, FIRST, SHORT, all_report, assembled, is_reported, reports};
 use aom_commands::{ExitStatus, run_bytes};
 use aom_test_sinks::BoundedPage;
 use std::alloc::Global;
@@ -17,7 +17,7 @@ const CUT: [Case<'static>; 6] = [
 
 #[test]
 fn the_output_may_fail(rt: HostRuntime) {
-    all_tell(&rt, rt.alloc(), ExitStatus::Fault, &CUT);
+    all_report(&rt, rt.alloc(), ExitStatus::Fault, &CUT);
 }
 
 /// Errors that fail change nothing else.
@@ -27,7 +27,7 @@ fn a_refusal_may_be_cut(rt: HostRuntime) {
     let mut out = BoundedPage::new(alloc, 100);
     let mut errors = BoundedPage::new(alloc, 3);
     let status = run_bytes(alloc, b"", b"", 1, Vec::new(alloc), &mut out, &mut errors);
-    assert!(rt; is_told(status, &out, &errors, ExitStatus::ImageRefused, b"loa"));
+    assert!(rt; is_reported(status, &out, &errors, ExitStatus::ImageRefused, b"loa"));
 }
 
 /// Three objects on the cleanup stack, which a leave unwinds. A header comes before it.
@@ -55,7 +55,7 @@ const GRAPH: [(usize, &[u8]); 3] = [(0, b""), (7, b"digraph"), (18, b"digraph ao
 fn all_cut(rt: &impl Abort, alloc: Global, call: &CommandCall<'_>, cuts: &[(usize, &[u8])]) {
     for cut in cuts {
         assert!(rt;
-            tells(alloc, call, cut.0, ExitStatus::Fault, cut.1),
+            reports(alloc, call, cut.0, ExitStatus::Fault, cut.1),
             "{}",
             cut.0
         );
@@ -118,7 +118,7 @@ end waiting cells 1
 
 /// The output takes so many bytes of the run and then fails: just these are out.
 fn is_cut_at(alloc: Global, call: &CommandCall<'_>, room: usize) -> bool {
-    room <= DISCARDED.len() && tells(alloc, call, room, ExitStatus::Fault, &DISCARDED[..room])
+    room <= DISCARDED.len() && reports(alloc, call, room, ExitStatus::Fault, &DISCARDED[..room])
 }
 
 /// It is so wherever the output ends.
@@ -128,7 +128,7 @@ fn is_cut_everywhere(rt: &impl Abort, alloc: Global, image: &[u8]) {
         assert!(rt; is_cut_at(alloc, &call, room), "{room}");
     }
     let whole = DISCARDED.len();
-    assert!(rt; tells(alloc, &call, whole, ExitStatus::Unfinished, DISCARDED));
+    assert!(rt; reports(alloc, &call, whole, ExitStatus::Unfinished, DISCARDED));
 }
 
 #[test]

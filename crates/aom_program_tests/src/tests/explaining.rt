@@ -1,28 +1,28 @@
 //! Explanations where memory is wanting, and where the output fails.
 use super::pages::FIRST;
 use aom_commands::{ExitStatus, Fault};
-use aom_explaining::{check_explained, explanation};
-use aom_test_sinks::{BoundedPage, Slip};
+use aom_diagnostic_commands::{check_explained, explanation};
+use aom_test_sinks::{BoundedPage, FixedSink};
 use std::test::Fail;
 
 /// Any request for memory may be refused: then the command says so behind the fault's line. Nothing here but the command asks
 /// for memory.
 #[test]
 fn explaining_may_want_memory(rt: HostRuntime) {
-    let mut written = Slip::blank();
-    let mut told = Slip::blank();
-    let ended = check_explained(rt.alloc(), b"a text", false, &mut written, &mut told);
+    let mut written = FixedSink::blank();
+    let mut reported = FixedSink::blank();
+    let ended = check_explained(rt.alloc(), b"a text", false, &mut written, &mut reported);
     assert!(rt; written.has(b""));
     if ended == ExitStatus::Fault {
         let said =
             b"memory\nmemory: A request for memory was refused, whatever it was for. It says nothing about the image, the text or the script.\nTo mend it: Give the program more memory.\n";
-        assert!(rt; told.has(b"memory\nmemory\n") || told.has(said));
+        assert!(rt; reported.has(b"memory\nmemory\n") || reported.has(said));
         return;
     }
     assert!(rt; ended == ExitStatus::ImageRefused);
     let said =
         b"load 1\nwrong magic: The first four bytes are not AOIM. An assembly text is refused so.\nTo mend it: Put --asm before a text, or assemble it first and name the image.\n";
-    assert!(rt; told.has(b"load 1\nmemory\n") || told.has(said));
+    assert!(rt; reported.has(b"load 1\nmemory\n") || reported.has(said));
 }
 
 #[test]

@@ -1,5 +1,5 @@
 //! A child in its parent's place, from the bytes of an image to the transcript.
-use super::pages::{Case, CommandCall, all_tell};
+use super::pages::{Case, CommandCall, all_report};
 use aom_commands::ExitStatus;
 
 /// The image of `examples/shapes.aom`: a square, which is a shape, answers its area in its own way.
@@ -38,7 +38,7 @@ const FAMILY: [Case<'static>; 2] = [
 /// It is accepted, and a call on the square runs what the square has. It goes by its own destructor, and then by that of a shape.
 #[test]
 fn a_child_stands_for_its_parent(rt: HostRuntime) {
-    all_tell(&rt, rt.alloc(), ExitStatus::Done, &FAMILY);
+    all_report(&rt, rt.alloc(), ExitStatus::Done, &FAMILY);
 }
 
 /// Where the square is no shape it has nothing to override.
@@ -47,7 +47,7 @@ fn a_stranger_overrides_nothing(rt: HostRuntime) {
     let mut image = SHAPES;
     image[116] = 0xff;
     image[117] = 0xff;
-    all_tell(
+    all_report(
         &rt,
         rt.alloc(),
         ExitStatus::ImageRefused,

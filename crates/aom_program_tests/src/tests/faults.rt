@@ -2,9 +2,9 @@
 use super::pages::FIRST;
 use aom_budget::BudgetFault;
 use aom_commands::{ExitStatus, Fault, Translation, try_run, try_translate};
-use aom_debug_words::DebugFault;
+use aom_debug_protocol::DebugFault;
 use aom_natives::BootFault;
-use aom_test_sinks::Slip;
+use aom_test_sinks::FixedSink;
 use std::alloc::Global;
 use std::fmt::Display;
 use std::process::Abort;
@@ -51,7 +51,7 @@ fn run_of(alloc: Global, case: &Case<'_>) -> Result<ExitStatus, Fault> {
         case.2,
         1_000_000,
         Vec::new(alloc),
-        &mut Slip::blank(),
+        &mut FixedSink::blank(),
     )
 }
 
@@ -69,7 +69,7 @@ fn a_run_that_is_refused_writes_its_fault(rt: HostRuntime) -> Result<(), Fail> {
 #[test]
 fn a_text_that_is_refused_writes_its_fault(rt: HostRuntime) -> Result<(), Fail> {
     let text = b"image budget 4\nfoo";
-    match try_translate(rt.alloc(), Translation::Asm, text, &mut Slip::blank()) {
+    match try_translate(rt.alloc(), Translation::Asm, text, &mut FixedSink::blank()) {
         Ok(_) => assert!(rt; false),
         Err(fault) => writes(&rt, rt.alloc(), &fault, "asm 2 2")?,
     }

@@ -1,27 +1,27 @@
 //! Any request for memory may be refused: then a command says so, and writes nothing else. Nothing here but the
 //! command asks for memory.
 use super::pages::{CommandCall, FIRST, FULL_HEAP, LISTING, SHORT, answer, sides};
-use aom_commands::{ExitStatus, Fault, tell};
-use aom_test_sinks::Slip;
+use aom_commands::{ExitStatus, Fault, report};
+use aom_test_sinks::FixedSink;
 use std::alloc::Global;
 use std::process::Abort;
 
 /// A call ends so and tells that, or wants memory.
-fn may_tell(
+fn may_report(
     rt: &impl Abort,
     alloc: Global,
     call: &CommandCall<'_>,
     status: ExitStatus,
-    told: &[u8],
+    reported: &[u8],
 ) {
-    let mut out = Slip::blank();
-    let mut errors = Slip::blank();
+    let mut out = FixedSink::blank();
+    let mut errors = FixedSink::blank();
     let ended = answer(alloc, call, &mut out, &mut errors);
     if ended == ExitStatus::Fault {
         assert!(rt; out.has(b"") && errors.has(b"memory\n"));
         return;
     }
-    let (text, line) = sides(status, told);
+    let (text, line) = sides(status, reported);
     assert!(rt; ended == status && out.has(text) && errors.has(line));
 }
 
@@ -63,17 +63,17 @@ const CASES: [(CommandCall<'static>, ExitStatus, &[u8]); 8] = [
 ];
 
 /// Each of these ends and tells so, or wants memory.
-fn all_may_tell(rt: &impl Abort, alloc: Global, cases: &[(CommandCall<'_>, ExitStatus, &[u8])]) {
+fn all_may_report(rt: &impl Abort, alloc: Global, cases: &[(CommandCall<'_>, ExitStatus, &[u8])]) {
     for case in cases {
-        may_tell(rt, alloc, &case.0, case.1, case.2);
+        may_report(rt, alloc, &case.0, case.1, case.2);
     }
 }
 
 #[test]
 fn each_call_may_want_memory(rt: HostRuntime) {
-    all_may_tell(&rt, rt.alloc(), &CASES);
+    all_may_report(&rt, rt.alloc(), &CASES);
     let short = CommandCall::Check(&FIRST[..79]);
-    may_tell(
+    may_report(
         &rt,
         rt.alloc(),
         &short,
@@ -93,8 +93,8 @@ const UNPAID: [u8; 80] = [
 /// Figures of an image that is refused go to the output, and why it is refused to the errors.
 #[test]
 fn refusing_with_figures_may_want_memory(rt: HostRuntime) {
-    let mut out = Slip::blank();
-    let mut errors = Slip::blank();
+    let mut out = FixedSink::blank();
+    let mut errors = FixedSink::blank();
     let ended = answer(
         rt.alloc(),
         &CommandCall::Prices(&UNPAID),
@@ -113,8 +113,8 @@ fn refusing_with_figures_may_want_memory(rt: HostRuntime) {
 
 /// That it is wanting has its line and its status, where no command tells it too.
 #[test]
-fn want_of_memory_is_told(rt: HostRuntime) {
-    let mut errors = Slip::blank();
-    let status = tell(&Fault::Memory, &mut errors);
+fn want_of_memory_is_reported(rt: HostRuntime) {
+    let mut errors = FixedSink::blank();
+    let status = report(&Fault::Memory, &mut errors);
     assert!(rt; status.number() == 5 && errors.has(b"memory\n"));
 }

@@ -82,37 +82,37 @@ pub fn answer<W: Sink, E: Sink>(
 
 /// The output and the errors of a call that ends so: a refusal goes to the errors, and all else to the output. Where that has
 /// failed it has a beginning of it.
-pub fn sides(status: ExitStatus, told: &[u8]) -> (&[u8], &[u8]) {
+pub fn sides(status: ExitStatus, reported: &[u8]) -> (&[u8], &[u8]) {
     match status {
-        ExitStatus::ImageRefused | ExitStatus::CallRefused => (b"", told),
-        ExitStatus::Fault => (told, b"write\n"),
-        ExitStatus::Done | ExitStatus::Unfinished | ExitStatus::Broken => (told, b""),
+        ExitStatus::ImageRefused | ExitStatus::CallRefused => (b"", reported),
+        ExitStatus::Fault => (reported, b"write\n"),
+        ExitStatus::Done | ExitStatus::Unfinished | ExitStatus::Broken => (reported, b""),
     }
 }
 
 /// Whether a call with so much room for the output, which takes three bytes at a time, ends so and tells that.
-pub fn tells(
+pub fn reports(
     alloc: Global,
     call: &CommandCall<'_>,
     room: usize,
     status: ExitStatus,
-    told: &[u8],
+    reported: &[u8],
 ) -> bool {
     let mut out = BoundedPage::narrow(alloc, room, 3);
     let mut errors = BoundedPage::new(alloc, 100);
     let ended = answer(alloc, call, &mut out, &mut errors);
-    is_told(ended, &out, &errors, status, told)
+    is_reported(ended, &out, &errors, status, reported)
 }
 
 /// Whether a call that has ended and written so has told that.
-pub fn is_told(
+pub fn is_reported(
     ended: ExitStatus,
     out: &BoundedPage,
     errors: &BoundedPage,
     status: ExitStatus,
-    told: &[u8],
+    reported: &[u8],
 ) -> bool {
-    let (text, line) = sides(status, told);
+    let (text, line) = sides(status, reported);
     ended == status && out.text.as_slice() == text && errors.text.as_slice() == line
 }
 
@@ -120,10 +120,10 @@ pub fn is_told(
 pub type Case<'a> = (CommandCall<'a>, usize, &'a [u8]);
 
 /// Each call ends so, and tells as its case says.
-pub fn all_tell(rt: &impl Abort, alloc: Global, status: ExitStatus, cases: &[Case<'_>]) {
+pub fn all_report(rt: &impl Abort, alloc: Global, status: ExitStatus, cases: &[Case<'_>]) {
     for (number, case) in cases.iter().enumerate() {
         assert!(rt;
-            tells(alloc, &case.0, case.1, status, case.2),
+            reports(alloc, &case.0, case.1, status, case.2),
             "case {number}"
         );
     }

@@ -5,7 +5,7 @@ use super::pages::FIRST;
 use aom_budget::Accepted;
 use aom_commands::accept_bytes;
 use aom_natives::{BootFault, Counter, Native};
-use aom_run::Machine;
+use aom_run::HostedMachine;
 use std::alloc::{AllocError, Global};
 use std::process::Abort;
 
@@ -43,7 +43,7 @@ fn why_not(
     boxes.push(Box::new(alloc, counted(1))?)?;
     boxes.push(Box::new(alloc, counted(2))?)?;
     boxes.push(Box::new(alloc, counted(3))?)?;
-    match Machine::boot(alloc, accepted, boxes) {
+    match HostedMachine::boot(alloc, accepted, boxes) {
         Ok(machine) => {
             drop(machine);
             Ok(None)

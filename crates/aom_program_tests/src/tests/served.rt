@@ -2,7 +2,7 @@
 ghost use Rattle.std.specs.Prelude.{◌≡◌, []};
 ghost use Rattle.aom_natives.specs.Owed.{OweNothing};
 
-use super::pages::{assembled, is_told, run_beside};
+use super::pages::{assembled, is_reported, run_beside};
 use aom_commands::ExitStatus;
 use aom_natives::Native;
 use aom_test_sinks::BoundedPage;
@@ -18,7 +18,7 @@ fn serves(
     text: &[&str],
     script: &str,
     status: ExitStatus,
-    told: &[u8],
+    reported: &[u8],
 ) -> Result<(), Fail>
     requires { OweNothing (λ b. (⟦<dyn Native as Native>⟧ b.vtable).owed b.value) boxes.items }
 {
@@ -33,7 +33,10 @@ fn serves(
         &mut out,
         &mut errors,
     );
-    assert!(rt; is_told(ended, &out, &errors, status, told), "{script}");
+    assert!(rt;
+        is_reported(ended, &out, &errors, status, reported),
+        "{script}"
+    );
     Ok(())
 }
 
@@ -45,13 +48,13 @@ pub fn serves_beside(
     text: &[&str],
     script: &str,
     status: ExitStatus,
-    told: &[u8],
+    reported: &[u8],
 ) -> Result<(), Fail>
     requires { (⟦<dyn Native as Native>⟧ native.vtable).owed native.value ≡ [] }
 {
     let mut boxes = Vec::with_capacity(alloc, 1)?;
     boxes.push(native)?;
-    serves(rt, alloc, boxes, text, script, status, told)
+    serves(rt, alloc, boxes, text, script, status, reported)
 }
 
 /// The same beside two.
@@ -63,7 +66,7 @@ pub fn serves_beside_both(
     text: &[&str],
     script: &str,
     status: ExitStatus,
-    told: &[u8],
+    reported: &[u8],
 ) -> Result<(), Fail>
     requires first { (⟦<dyn Native as Native>⟧ first.vtable).owed first.value ≡ [] }
     requires second { (⟦<dyn Native as Native>⟧ second.vtable).owed second.value ≡ [] }
@@ -71,7 +74,7 @@ pub fn serves_beside_both(
     let mut boxes = Vec::with_capacity(alloc, 2)?;
     boxes.push(first)?;
     boxes.push(second)?;
-    serves(rt, alloc, boxes, text, script, status, told)
+    serves(rt, alloc, boxes, text, script, status, reported)
 }
 
 /// Two objects, each of which begins a request, prints with what it was completed, and begins another.

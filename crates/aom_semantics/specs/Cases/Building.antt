@@ -12,11 +12,11 @@ use Rattle.aom_image.specs.declared.method.Gives.TheVariants.{Nothing}
 use Rattle.aom_image.specs.declared.method.Method.{Method}
 use Rattle.aom_image.specs.declared.method.Role.{Role}
 use Rattle.aom_image.specs.declared.method.Role.TheVariants.{Do, Main}
-use Rattle.aom_classes.specs.Roles.{or_else}
+use Rattle.aom_link_conditions.specs.Roles.{or_else}
 use Rattle.aom_image.specs.declared.method.Thing.{Thing}
 use Rattle.aom_image.specs.declared.method.Thing.TheVariants.{Object as An_object_of, Message}
 use Rattle.aom_semantics.specs.Places.{Place, Register, Elsewhere, Root, Cell, unserved}
-use Rattle.aom_semantics.specs.State.{Home, Static, AtRoot, Inside, Frame, frame_of, Task, Run, Trapped, Dispatched, Of_main, Item, A_mark, State, Choice, Need, Outcome, Goes, IsStuck, Stuck, Unbalanced, PopUnder, PushNoTrap, LeaveNoTrap, AlreadyActive, ActiveDestroyed, Stray, AddedWrong, RequestOverlap, CancelHang, CompletedTwice, MessageLost, Orphan, NullOrDead, WrongKind, ClosedWhileOutstanding}
+use Rattle.aom_semantics.specs.State.{Receiver, Static, AtRoot, Inside, Frame, frame_of, Task, Run, Trapped, Dispatched, Of_main, Item, A_mark, State, Choice, Need, Outcome, Goes, IsStuck, Stuck, Unbalanced, PopUnder, PushNoTrap, LeaveNoTrap, AlreadyActive, ActiveDestroyed, Stray, AddedWrong, RequestOverlap, CancelHang, CompletedTwice, MessageLost, Orphan, NullOrDead, WrongKind, ClosedWhileOutstanding}
 use Rattle.aom_semantics.specs.Moves.{needs, step}
 
 -- ---- the image
@@ -88,7 +88,7 @@ abbrev pub mine : ℕ → Place
 mine r = Register 2 r
 
 -- inside an object of that thing, which the root holds
-abbrev pub inside : Thing → Home
+abbrev pub inside : Thing → Receiver
 inside thing = Inside (record { name = 9; thing = thing }) (Elsewhere Root)
 
 -- over these tasks, cells and items, with that at hand
@@ -110,7 +110,7 @@ pub record Case : Type 0 where
   pub instr : Instr
   -- what the method's registers have
   pub words : List (Option ℤ)
-  pub home : Home
+  pub receiver : Receiver
   -- the tasks under the method
   pub below : List Task
   pub cells : List Cell
@@ -132,7 +132,7 @@ fails instr kinds =
     record {
       instr = instr;
       words = [];
-      home = Static;
+      receiver = Static;
       below = at_bottom;
       cells = [];
       items = A_mark ∷ [];
@@ -149,20 +149,20 @@ abbrev pub thing_class : Thing → Option ℕ
 thing_class (An_object_of c) = Some c
 thing_class Message = None
 
-abbrev pub class_there : Home → Option ℕ
+abbrev pub class_there : Receiver → Option ℕ
 class_there Static = None
 class_there AtRoot = None
 class_there (Inside o from) = thing_class o.thing
 
-abbrev pub role_there : Home → Role → Role
+abbrev pub role_there : Receiver → Role → Role
 role_there AtRoot r = Main
 role_there _ r = r
 
 abbrev pub image_of : Case → Image
-image_of c = small_image (record (a_method (or_else c.class (class_there c.home)) [] c.gives (c.instr ∷ [])) { role = role_there c.home c.role }) c.called
+image_of c = small_image (record (a_method (or_else c.class (class_there c.receiver)) [] c.gives (c.instr ∷ [])) { role = role_there c.receiver c.role }) c.called
 
 abbrev pub frame_at : Case → Frame
-frame_at c = record (frame_of 0 c.home 1) { words = c.words }
+frame_at c = record (frame_of 0 c.receiver 1) { words = c.words }
 
 abbrev pub begins : Case → State
 begins c = state_of (Run (frame_at c) ∷ c.below) c.cells c.items

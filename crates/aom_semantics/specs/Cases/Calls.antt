@@ -39,16 +39,16 @@ static arguments gives = a_method None arguments gives []
 abbrev pub this_cases : Calling → List Case
 this_cases call =
     fails (call This 1 0 0) []
-    ∷ record (fails (call This 1 0 0) []) { home = inside pair; called = of_pair [] Nothing }
+    ∷ record (fails (call This 1 0 0) []) { receiver = inside pair; called = of_pair [] Nothing }
     ∷ record (fails (call This 1 0 0) (WrongKind ∷ [])) { called = of_pair [] Nothing }
-    ∷ record (fails (call This 1 0 0) (WrongKind ∷ [])) { home = AtRoot; called = of_pair [] Nothing }
-    ∷ record (fails (call This 1 0 0) (WrongKind ∷ [])) { home = inside leaf; called = of_pair [] Nothing }
-    ∷ record (fails (call This 1 0 0) []) { home = inside child; called = of_pair [] Nothing; cells = a_cell 1 leaf (Field 9 0) ∷ [] }
+    ∷ record (fails (call This 1 0 0) (WrongKind ∷ [])) { receiver = AtRoot; called = of_pair [] Nothing }
+    ∷ record (fails (call This 1 0 0) (WrongKind ∷ [])) { receiver = inside leaf; called = of_pair [] Nothing }
+    ∷ record (fails (call This 1 0 0) []) { receiver = inside child; called = of_pair [] Nothing; cells = a_cell 1 leaf (Field 9 0) ∷ [] }
     -- where it constructs, no field that the parent of the caller's class declares owns; the caller's own may
-    ∷ record (fails (call This 1 0 0) []) { home = inside child; called = construct_of_pair; cells = a_cell 1 leaf (Field 9 2) ∷ [] }
-    ∷ record (fails (call This 1 0 0) (Orphan ∷ [])) { home = inside child; called = construct_of_pair; cells = a_cell 1 leaf (Field 9 0) ∷ [] }
-    ∷ record (fails (call This 1 0 0) (Orphan ∷ [])) { home = inside child; called = construct_of_pair; cells = a_cell 1 Message (Field 9 1) ∷ [] }
-    ∷ record (fails (call This 1 0 0) (WrongKind ∷ [])) { home = inside leaf; called = construct_of_pair }
+    ∷ record (fails (call This 1 0 0) []) { receiver = inside child; called = construct_of_pair; cells = a_cell 1 leaf (Field 9 2) ∷ [] }
+    ∷ record (fails (call This 1 0 0) (Orphan ∷ [])) { receiver = inside child; called = construct_of_pair; cells = a_cell 1 leaf (Field 9 0) ∷ [] }
+    ∷ record (fails (call This 1 0 0) (Orphan ∷ [])) { receiver = inside child; called = construct_of_pair; cells = a_cell 1 Message (Field 9 1) ∷ [] }
+    ∷ record (fails (call This 1 0 0) (WrongKind ∷ [])) { receiver = inside leaf; called = construct_of_pair }
     ∷ []
 
 -- on what a register owns
@@ -73,15 +73,15 @@ register_cases call =
 -- on what a field owns
 abbrev pub on_field_cases : Calling → List Case
 on_field_cases call =
-    record (fails (call (On_field 0) 1 0 0) []) { home = inside pair; called = of_pair [] Nothing; cells = a_cell 1 pair (Field 9 0) ∷ [] }
+    record (fails (call (On_field 0) 1 0 0) []) { receiver = inside pair; called = of_pair [] Nothing; cells = a_cell 1 pair (Field 9 0) ∷ [] }
     -- there is no such field
-    ∷ record (fails (call (On_field 2) 1 0 0) (WrongKind ∷ [])) { home = inside pair; called = of_pair [] Nothing; cells = a_cell 1 pair (Field 9 2) ∷ [] }
-    ∷ record (fails (call (On_field 2) 1 0 0) (WrongKind ∷ [])) { home = inside child; class = Some 1; called = of_leaf; cells = a_cell 1 leaf (Field 9 2) ∷ [] }
-    ∷ record (fails (call (On_field 2) 1 0 0) []) { home = inside child; called = of_leaf; cells = a_cell 1 leaf (Field 9 2) ∷ [] }
+    ∷ record (fails (call (On_field 2) 1 0 0) (WrongKind ∷ [])) { receiver = inside pair; called = of_pair [] Nothing; cells = a_cell 1 pair (Field 9 2) ∷ [] }
+    ∷ record (fails (call (On_field 2) 1 0 0) (WrongKind ∷ [])) { receiver = inside child; class = Some 1; called = of_leaf; cells = a_cell 1 leaf (Field 9 2) ∷ [] }
+    ∷ record (fails (call (On_field 2) 1 0 0) []) { receiver = inside child; called = of_leaf; cells = a_cell 1 leaf (Field 9 2) ∷ [] }
     -- it is null, or owns another thing
-    ∷ record (fails (call (On_field 0) 1 0 0) (NullOrDead ∷ [])) { home = inside pair; called = of_pair [] Nothing }
-    ∷ record (fails (call (On_field 0) 1 0 0) (WrongKind ∷ [])) { home = inside pair; called = of_pair [] Nothing; cells = a_cell 1 leaf (Field 9 0) ∷ [] }
-    ∷ record (fails (call (On_field 2) 1 0 0) (WrongKind ∷ NullOrDead ∷ [])) { home = inside pair; called = of_pair [] Nothing }
+    ∷ record (fails (call (On_field 0) 1 0 0) (NullOrDead ∷ [])) { receiver = inside pair; called = of_pair [] Nothing }
+    ∷ record (fails (call (On_field 0) 1 0 0) (WrongKind ∷ [])) { receiver = inside pair; called = of_pair [] Nothing; cells = a_cell 1 leaf (Field 9 0) ∷ [] }
+    ∷ record (fails (call (On_field 2) 1 0 0) (WrongKind ∷ NullOrDead ∷ [])) { receiver = inside pair; called = of_pair [] Nothing }
     ∷ []
 
 -- on what an entry of the cleanup stack owns, counted from the last
@@ -118,7 +118,7 @@ argument_cases call =
     ∷ record (fails (call This 1 2 0) (WrongKind ∷ [])) { called = static (Takes_word ∷ Takes_word ∷ []) Nothing; words = replicate 3 seven }
     ∷ record (fails (call This 1 2 0) (NullOrDead ∷ [])) { called = static (Takes_own leaf ∷ Takes_own leaf ∷ []) Nothing; cells = a_cell 1 leaf (mine 2) ∷ [] }
     -- the target is asked for first, and the first argument before the second
-    ∷ record (fails (call (On_field 0) 1 2 0) (NullOrDead ∷ WrongKind ∷ [])) { home = inside pair; called = of_pair (Takes_word ∷ []) Nothing }
+    ∷ record (fails (call (On_field 0) 1 2 0) (NullOrDead ∷ WrongKind ∷ [])) { receiver = inside pair; called = of_pair (Takes_word ∷ []) Nothing }
     ∷ record (fails (call This 1 2 0) (WrongKind ∷ NullOrDead ∷ [])) { called = static (Takes_word ∷ Takes_own leaf ∷ []) Nothing }
     ∷ []
 

@@ -13,7 +13,7 @@ use Rattle.aom_instructions.specs.declared.instr.Target.TheVariants.{This, Regis
 use Rattle.aom_transcript.specs.declared.line.Ending.TheVariants.{Stopped}
 use Rattle.aom_transcript.specs.declared.line.Line.TheVariants.{Gone, Main, Out}
 use Rattle.aom_semantics.specs.Cases.Programs.{a_method}
-use Rattle.aom_semantics.specs.Cases.Running.{Runs, Sticks, run_of}
+use Rattle.aom_semantics.specs.Cases.Running.{RunsTo, Sticks, run_of}
 use Rattle.aom_semantics.specs.State.{Orphan}
 
 -- a class that owns nothing, one with a field, and its child with a field more: the first constructs with method 0, the child with method 1, and
@@ -42,13 +42,13 @@ builds = NewOrLeave 0 2 ∷ Call (On_register 0) 1 0 0 ∷ Call (On_register 0) 
 -- the parent's construct first, and the child's own field after it
 abbrev pub parents_first : Type 0
 parents_first =
-    Runs 60 (a_builder (Call This 0 0 0 ∷ Const 1 (pos 2) ∷ Print 1 ∷ JumpEmpty 1 4 ∷ NewOrLeave 0 0 ∷ Put 1 0 ∷ Return 0 ∷ []) builds)
+    RunsTo 60 (a_builder (Call This 0 0 0 ∷ Const 1 (pos 2) ∷ Print 1 ∷ JumpEmpty 1 4 ∷ NewOrLeave 0 0 ∷ Put 1 0 ∷ Return 0 ∷ []) builds)
     [] Stopped 0 (Out (pos 1) ∷ Out (pos 2) ∷ Gone 0 ∷ Gone 0 ∷ Gone 2 ∷ [])
 
 -- the child's own field may be filled before
 abbrev pub own_first : Type 0
 own_first =
-    Runs 60 (a_builder (NewOrLeave 0 0 ∷ Put 1 0 ∷ Call This 0 0 0 ∷ Return 0 ∷ []) builds)
+    RunsTo 60 (a_builder (NewOrLeave 0 0 ∷ Put 1 0 ∷ Call This 0 0 0 ∷ Return 0 ∷ []) builds)
     [] Stopped 0 (Out (pos 1) ∷ Gone 0 ∷ Gone 0 ∷ Gone 2 ∷ [])
 
 -- the parent's may not, nor is its construct called twice

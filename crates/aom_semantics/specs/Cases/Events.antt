@@ -3,12 +3,12 @@ use Rattle.std.specs.Prelude.{ℕ, ℤ, pos, negsuc, Bool, true, false, ◌≡�
 use Rattle.aom_semantics.specs.Requests.{pending}
 use Rattle.aom_semantics.specs.Places.{Active, Cell, Elsewhere, Idle, Issued, Phase, Request, Root}
 use Rattle.aom_semantics.specs.State.{CompletedTwice, Goes, IsStuck, NullOrDead, Outcome, State, Stuck}
-use Rattle.aom_semantics.specs.World.{Completes, Hears, Kills, Environment, Passes, Picks, Polls, Turning, Waits, nothing_heard, refusing, turning, turned}
+use Rattle.aom_semantics.specs.World.{Completes, Observes, Kills, Environment, Passes, Picks, Polls, Turning, Waits, nothing_observed, refusing, turning, turned}
 use Rattle.aom_semantics.specs.Cases.Building.{a_cell, served, waiter}
 use Rattle.aom_semantics.specs.Cases.Moves.{an_image}
-use Rattle.aom_semantics.specs.Cases.Turns.{between, listed, named_so, seat_of, timed}
+use Rattle.aom_semantics.specs.Cases.Turns.{between, listed, named_so, owned_object_of, timed}
 use Rattle.aom_transcript.specs.declared.event.Event.{Event}
-use Rattle.aom_transcript.specs.declared.event.Event.TheVariants.{Kill, Tell}
+use Rattle.aom_transcript.specs.declared.event.Event.TheVariants.{Kill, Report}
 use Rattle.aom_transcript.specs.declared.event.TimedEvent.{TimedEvent}
 
 -- ---- in which order things come
@@ -38,7 +38,7 @@ state_in c = let s = between c.cells in record s { killed = c.killed; rest = rec
 
 abbrev pub AllComeSo : List Event_case → Type 0
 AllComeSo [] = Unit {0}
-AllComeSo (c ∷ cs) = (turning (outside_of c) nothing_heard (state_in c) ≡ c.comes) × AllComeSo cs
+AllComeSo (c ∷ cs) = (turning (outside_of c) nothing_observed (state_in c) ≡ c.comes) × AllComeSo cs
 
 -- a completed request that is waited for, and a timer that is due at that time
 abbrev pub ready : Cell
@@ -50,12 +50,12 @@ due_at due = timed 2 1 (record { due = due; order = 0 })
 -- an event that is due comes after the timers that are, and before the natives; a kill counts for a native that is there and lives
 abbrev pub event_cases : List Event_case
 event_cases =
-    comes_with Hears (at_time 0 (Tell 0 (pos 5)) ∷ []) (ready ∷ [])
-    ∷ comes_with (Completes (named_so 2)) (at_time 0 (Tell 0 (pos 5)) ∷ []) (due_at 0 ∷ [])
-    ∷ comes_with Hears (at_time 0 (Tell 0 (pos 5)) ∷ []) (due_at 1 ∷ [])
+    comes_with Observes (at_time 0 (Report 0 (pos 5)) ∷ []) (ready ∷ [])
+    ∷ comes_with (Completes (named_so 2)) (at_time 0 (Report 0 (pos 5)) ∷ []) (due_at 0 ∷ [])
+    ∷ comes_with Observes (at_time 0 (Report 0 (pos 5)) ∷ []) (due_at 1 ∷ [])
     ∷ comes_with (Kills 1) (at_time 0 (Kill 1) ∷ []) []
-    ∷ comes_with Hears (at_time 0 (Kill 2) ∷ []) []
-    ∷ record (comes_with Hears (at_time 0 (Kill 1) ∷ []) []) { killed = 1 ∷ [] }
+    ∷ comes_with Observes (at_time 0 (Kill 2) ∷ []) []
+    ∷ record (comes_with Observes (at_time 0 (Kill 1) ∷ []) []) { killed = 1 ∷ [] }
     ∷ record (comes_with (Kills 0) (at_time 0 (Kill 0) ∷ []) []) { killed = 1 ∷ [] }
     ∷ comes_with (Polls 0 None) (at_time 1 (Kill 1) ∷ []) []
     ∷ []
@@ -65,9 +65,9 @@ abbrev pub poll_cases : List Event_case
 poll_cases =
     comes_with (Polls 0 None) [] (ready ∷ [])
     ∷ polled_to 1 (comes_with (Polls 1 None) [] (ready ∷ []))
-    ∷ polled_to 2 (comes_with (Picks (seat_of 1)) [] (ready ∷ []))
+    ∷ polled_to 2 (comes_with (Picks (owned_object_of 1)) [] (ready ∷ []))
     ∷ record (comes_with (Polls 1 None) [] []) { killed = 0 ∷ [] }
-    ∷ record (polled_to 1 (comes_with (Picks (seat_of 1)) [] (ready ∷ []))) { killed = 1 ∷ [] }
+    ∷ record (polled_to 1 (comes_with (Picks (owned_object_of 1)) [] (ready ∷ []))) { killed = 1 ∷ [] }
     ∷ []
 
 -- where nothing signals time passes to what comes next
@@ -103,12 +103,12 @@ stuck_so (Goes s) = None
 stuck_so (IsStuck kind) = Some kind
 
 -- the status of each cell's request, and whether it has a session
-abbrev pub told_of : Option Request → Option (Phase × ℤ)
-told_of None = None
-told_of (Some r) = Some (r.phase, r.status)
+abbrev pub reported_of : Option Request → Option (Phase × ℤ)
+reported_of None = None
+reported_of (Some r) = Some (r.phase, r.status)
 
-abbrev pub told : Cell → Option (Phase × ℤ) × Bool
-told c = (told_of c.request, c.session)
+abbrev pub reported : Cell → Option (Phase × ℤ) × Bool
+reported c = (reported_of c.request, c.session)
 
 -- a turn, and what it leaves of the cells, or how it is stuck
 pub record Turn_leaves : Type 0 where
@@ -131,7 +131,7 @@ outcome_of c = turned an_image (between c.cells) c.turning
 
 abbrev pub AllLeave : List Turn_leaves → Type 0
 AllLeave [] = Unit {0}
-AllLeave (c ∷ cs) = (map told (cells_left (outcome_of c)) ≡ c.left) × (stuck_so (outcome_of c) ≡ c.stuck) × AllLeave cs
+AllLeave (c ∷ cs) = (map reported (cells_left (outcome_of c)) ≡ c.left) × (stuck_so (outcome_of c) ≡ c.stuck) × AllLeave cs
 
 -- a kill completes what is outstanding at that native, and ends its sessions
 abbrev pub kill_cases : List Turn_leaves

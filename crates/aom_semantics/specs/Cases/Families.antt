@@ -17,7 +17,7 @@ use Rattle.aom_instructions.specs.declared.instr.Target.TheVariants.{This, Regis
 use Rattle.aom_transcript.specs.declared.line.Ending.TheVariants.{Stopped}
 use Rattle.aom_transcript.specs.declared.line.Line.TheVariants.{Gone, Main, Out}
 use Rattle.aom_semantics.specs.Cases.Programs.{a_method}
-use Rattle.aom_semantics.specs.Cases.Running.{Runs, Sticks, run_of}
+use Rattle.aom_semantics.specs.Cases.Running.{RunsTo, Sticks, run_of}
 use Rattle.aom_semantics.specs.State.{Orphan}
 
 -- an image of the second version
@@ -48,7 +48,7 @@ tries class m code = NewOrLeave 0 class ∷ Call (On_register 0) m 0 0 ∷ Delet
 -- of the child the child's, and of the parent its own, also under a trap
 abbrev pub overridden : Type 0
 overridden =
-    Runs 80
+    RunsTo 80
     (a_family (a_plain ∷ from 0 ∷ []) (
     says 0 1 ∷ says_over 0 1 2
     ∷ is_main (tries 1 0 (tries 0 0 (NewOrLeave 0 1 ∷ Trap (On_register 0) 0 1 2 ∷ Delete 0 ∷ Stop ∷ Return 0 ∷ [])))
@@ -58,7 +58,7 @@ overridden =
 -- of four classes in a line, the second and the third with one of their own, the nearest
 abbrev pub nearest : Type 0
 nearest =
-    Runs 80
+    RunsTo 80
     (a_family (a_plain ∷ from 0 ∷ from 1 ∷ from 2 ∷ []) (
     says 0 1 ∷ says_over 0 1 2 ∷ says_over 0 2 3
     ∷ is_main (tries 3 0 (tries 1 0 (Stop ∷ Return 0 ∷ [])))
@@ -68,7 +68,7 @@ nearest =
 -- two overriders of a method, neither of the other: a call of the first runs the first on an object whose class has the second
 abbrev pub no_slots : Type 0
 no_slots =
-    Runs 80
+    RunsTo 80
     (a_family (a_plain ∷ from 0 ∷ from 1 ∷ []) (
     says 0 1 ∷ says_over 0 1 2 ∷ says_over 0 2 3
     ∷ a_method None Do (Takes_own (An_object_of 1) ∷ []) Nothing (Call (On_register 0) 1 0 0 ∷ Call (On_register 0) 0 0 0 ∷ Delete 0 ∷ Return 0 ∷ [])
@@ -79,7 +79,7 @@ no_slots =
 -- an overrider of an overrider is one, and the parent's method calls on its own object what the child has
 abbrev pub on_self : Type 0
 on_self =
-    Runs 80
+    RunsTo 80
     (a_family (a_plain ∷ from 0 ∷ from 1 ∷ []) (
     says 0 1 ∷ says_over 0 1 2 ∷ says_over 1 2 3
     ∷ a_method (Some 0) Do [] Nothing (Call This 0 0 0 ∷ Return 0 ∷ [])
@@ -107,7 +107,7 @@ empties f code = Take 1 f ∷ Delete 1 ∷ code
 -- the child's destructor, then that of the class two above: the one between has none
 abbrev pub gap : Type 0
 gap =
-    Runs 40
+    RunsTo 40
     (a_family (a_plain ∷ from 0 ∷ from 1 ∷ []) (
     ends_with 2 3 (Return 0 ∷ []) ∷ ends_with 0 1 (Return 0 ∷ []) ∷ is_main (NewOrLeave 0 2 ∷ Delete 0 ∷ Stop ∷ Return 0 ∷ [])
     ∷ []))
@@ -123,7 +123,7 @@ owning_family code =
     ∷ [])
 
 abbrev pub each_empties : Type 0
-each_empties = Runs 60 (owning_family (empties 1 (Return 0 ∷ []))) [] Stopped 0 (Out (pos 2) ∷ Gone 0 ∷ Out (pos 1) ∷ Gone 0 ∷ Gone 2 ∷ [])
+each_empties = RunsTo 60 (owning_family (empties 1 (Return 0 ∷ []))) [] Stopped 0 (Out (pos 2) ∷ Gone 0 ∷ Out (pos 1) ∷ Gone 0 ∷ Gone 2 ∷ [])
 
 -- a field of the child's that is left is an orphan, as the child's destructor ends
 abbrev pub left_over : Type 0
@@ -132,7 +132,7 @@ left_over = run_of 60 (owning_family (empties 0 (Return 0 ∷ []))) [] ≡ Stick
 -- under the parent's destructor the object counts as the parent
 abbrev pub as_the_parent : Type 0
 as_the_parent =
-    Runs 60
+    RunsTo 60
     (a_family (a_plain ∷ from 0 ∷ []) (
     says 0 1 ∷ says_over 0 1 2
     ∷ a_method (Some 1) Destruct [] Nothing (Call This 0 0 0 ∷ Return 0 ∷ []) ∷ a_method (Some 0) Destruct [] Nothing (Call This 0 0 0 ∷ Return 0 ∷ [])
@@ -159,11 +159,11 @@ cancels class = a_method (Some class) Destruct [] Nothing (Cancel ∷ Return 0 �
 
 -- so the parent's destructor cancels as the parent does
 abbrev pub parent_cancels : Type 0
-parent_cancels = Runs 80 (waiting (cancels 0 ∷ [])) [] Stopped 0 (Out (pos 1) ∷ Gone 1 ∷ [])
+parent_cancels = RunsTo 80 (waiting (cancels 0 ∷ [])) [] Stopped 0 (Out (pos 1) ∷ Gone 1 ∷ [])
 
 -- and the child's as the child does, before the parent's
 abbrev pub child_cancels : Type 0
-child_cancels = Runs 80 (waiting (cancels 1 ∷ cancels 0 ∷ [])) [] Stopped 0 (Out (pos 2) ∷ Gone 1 ∷ [])
+child_cancels = RunsTo 80 (waiting (cancels 1 ∷ cancels 0 ∷ [])) [] Stopped 0 (Out (pos 2) ∷ Gone 1 ∷ [])
 
 -- each of these runs comes out so
 pub record LinesRun : Type 0 where

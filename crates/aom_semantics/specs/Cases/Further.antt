@@ -6,7 +6,7 @@ use Rattle.aom_transcript.specs.declared.line.Asked.TheVariants.{Connect as A_co
 use Rattle.aom_transcript.specs.declared.event.TimedEvent.{TimedEvent}
 use Rattle.aom_transcript.specs.declared.line.Line.TheVariants.{Out, Leave, Gone, Run as Run_line, Serve, Reply as Reply_line, Refuse}
 use Rattle.aom_semantics.specs.Cases.Programs.{stopping, declining, stops_accepting, small, narrow, owning, two_servers}
-use Rattle.aom_semantics.specs.Cases.Running.{Runs, at}
+use Rattle.aom_semantics.specs.Cases.Running.{RunsTo, at}
 use Rattle.aom_semantics.specs.Cases.Served.{client_dies, client_lives, clients_refused, leaves_after_taking, returns_untaken, returns_with_message, service_leaves, service_stops, session_closed, slot_refused, words}
 
 -- a server goes: its sessions in order of connection, then what waits in order, a close untold, and then the server
@@ -17,7 +17,7 @@ going_events =
 
 abbrev pub server_goes : Type 0
 server_goes =
-    Runs 300 stopping going_events Stopped 0 (
+    RunsTo 300 stopping going_events Stopped 0 (
     Serve 1 1 A_connect 2 ∷ Reply_line 2 (pos 0)
     ∷ Serve 2 1 A_connect 0 ∷ Reply_line 0 (pos 0)
     ∷ Serve 3 1 A_connect 1 ∷ Reply_line 1 (pos 0)
@@ -32,7 +32,7 @@ declining_events = at 1 0 (Connect 1 2) ∷ at 2 0 (Send (words (pos 1))) ∷ at
 -- a connect is left with 0: there is no session
 abbrev pub accept_leaves : Type 0
 accept_leaves =
-    Runs 200 declining declining_events Waiting 1 (
+    RunsTo 200 declining declining_events Waiting 1 (
     Serve 1 1 A_connect 0 ∷ Leave (pos 0) ∷ Reply_line 0 (pos 0)
     ∷ Refuse 0 (negsuc 0)
     ∷ Serve 2 1 A_connect 0 ∷ Leave (pos 0) ∷ Reply_line 0 (pos 0)
@@ -41,7 +41,7 @@ accept_leaves =
 -- `accept` stops the run, and its client is told all the same
 abbrev pub accept_stops : Type 0
 accept_stops =
-    Runs 200 stops_accepting (at 1 0 (Connect 1 2) ∷ []) Stopped 0 (
+    RunsTo 200 stops_accepting (at 1 0 (Connect 1 2) ∷ []) Stopped 0 (
     Serve 1 1 A_connect 0 ∷ Reply_line 0 (pos 0) ∷ Gone 0 ∷ Gone 1
     ∷ [])
 
@@ -51,7 +51,7 @@ small_events = at 1 0 (Connect 1 2) ∷ at 1 1 (Connect 1 2) ∷ at 5 0 (Send (w
 -- messages are no cells, and there are as many as the image says
 abbrev pub no_place : Type 0
 no_place =
-    Runs 200 small small_events Waiting 2 (
+    RunsTo 200 small small_events Waiting 2 (
     Serve 1 1 A_connect 0 ∷ Reply_line 0 (pos 0)
     ∷ Serve 2 1 A_connect 1 ∷ Leave (negsuc 3) ∷ Reply_line 1 (negsuc 3)
     ∷ Refuse 0 (negsuc 15)
@@ -67,7 +67,7 @@ narrow_events =
 -- a connect that waits is taken back by a close; a server takes so many sessions and connects at most
 abbrev pub taken_back : Type 0
 taken_back =
-    Runs 200 narrow narrow_events Waiting 2 (
+    RunsTo 200 narrow narrow_events Waiting 2 (
     Refuse 1 (negsuc 15) ∷ Refuse 0 (negsuc 15)
     ∷ Serve 1 1 A_connect 1 ∷ Reply_line 1 (pos 0) ∷ Refuse 0 (negsuc 15)
     ∷ Serve 3 1 A_close 1 ∷ Gone 0
@@ -87,7 +87,7 @@ owning_events =
 -- the object of a higher priority comes first; once the server is gone its client is told so until it closes
 abbrev pub server_deleted : Type 0
 server_deleted =
-    Runs 300 owning owning_events Waiting 1 (
+    RunsTo 300 owning owning_events Waiting 1 (
     Serve 2 1 A_connect 0 ∷ Reply_line 0 (pos 0)
     ∷ Serve 4 1 A_message 0 ∷ Reply_line 0 (pos 4)
     ∷ Run_line 10 2 (pos 0) ∷ Gone 0 ∷ Reply_line 0 (negsuc 14) ∷ Reply_line 1 (negsuc 14)
@@ -100,7 +100,7 @@ server_deleted =
 -- the one that was enlisted first alone is asked
 abbrev pub first_alone : Type 0
 first_alone =
-    Runs 200 two_servers (at 1 0 (Connect 1 1) ∷ at 2 1 (Connect 1 1) ∷ []) Waiting 4 (
+    RunsTo 200 two_servers (at 1 0 (Connect 1 1) ∷ at 2 1 (Connect 1 1) ∷ []) Waiting 4 (
     Serve 1 1 A_connect 0 ∷ Out (pos 5) ∷ Reply_line 0 (pos 0) ∷ Refuse 1 (negsuc 15)
     ∷ [])
 

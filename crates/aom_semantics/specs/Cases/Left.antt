@@ -9,7 +9,7 @@ use Rattle.aom_instructions.specs.declared.instr.Instr.TheVariants.{Abort, PopDe
 use Rattle.aom_semantics.specs.Cases.Building.{Case, a_cell, a_method, at_bottom, begins, choice_of, fails, handing, image_of, inside, leaf, pair, small_image, state_of}
 use Rattle.aom_semantics.specs.Cases.Events.{cells_left}
 use Rattle.aom_semantics.specs.Cases.Moves.{an_image, moved_on}
-use Rattle.aom_semantics.specs.Cases.Servers.{a_message, a_server, asked, seat}
+use Rattle.aom_semantics.specs.Cases.Servers.{a_message, a_server, asked, owned_object}
 use Rattle.aom_semantics.specs.Cases.Tokens.{a_token, handing_cell, hand_case, reply_case, waiting_cell}
 use Rattle.aom_semantics.specs.Moves.{step}
 use Rattle.aom_semantics.specs.Places.{Active, Cancelling, Cell, Elsewhere, Entry, Going, Idle, Message_of, Place, Queued, Request, Sender}
@@ -22,9 +22,9 @@ abbrev pub tasks_left : Outcome → List Task
 tasks_left (Goes s) = s.tasks
 tasks_left (IsStuck kind) = []
 
-abbrev pub method_at_hand : Task → Option ℕ
-method_at_hand (Run fr) = Some fr.method
-method_at_hand _ = None
+abbrev pub current_method : Task → Option ℕ
+current_method (Run fr) = Some fr.method
+current_method _ = None
 
 -- its name, and where it is owned
 abbrev pub owned_so : Cell → ℕ × Place
@@ -42,7 +42,7 @@ sender_of c = c.service.sender
 
 -- the method of each task that is at hand then, none for what is no method, and the cells with their owners
 abbrev pub Leaves : Outcome → List (Option ℕ) → List (ℕ × Place) → Type 0
-Leaves after methods owners = (map method_at_hand (tasks_left after) ≡ methods) × (map owned_so (cells_left after) ≡ owners)
+Leaves after methods owners = (map current_method (tasks_left after) ≡ methods) × (map owned_so (cells_left after) ≡ owners)
 
 abbrev pub after : Case → Outcome
 after c = step (image_of c) (choice_of c) (begins c)
@@ -71,11 +71,11 @@ with_its_queue = state_of (Destroy ∷ at_bottom) (record (a_server (asked (Mess
 
 -- a `service` has left, and its message is there still
 abbrev pub service_has_left : State
-service_has_left = state_of (Dispatched (Of_server seat 0 (Service_left (pos 7))) ∷ []) (a_message ∷ []) []
+service_has_left = state_of (Dispatched (Of_server owned_object 0 (Service_left (pos 7))) ∷ []) (a_message ∷ []) []
 
 -- the cancel method of an object that waits for a token
 abbrev pub aborting : Case
-aborting = record (fails Abort []) { home = inside handing; role = Cancels; cells = waiting_cell Cancelling ∷ [] }
+aborting = record (fails Abort []) { receiver = inside handing; role = Cancels; cells = waiting_cell Cancelling ∷ [] }
 
 -- an object hands out a token, where there is a place for a message
 abbrev pub handing_out : Case

@@ -19,14 +19,14 @@ owing phase status = record (a_cell 9 served (Elsewhere Root)) { request = Some 
 
 -- a method of an object that a native serves and that is not enlisted, and of one whose request is so far
 abbrev pub served_case : Instr → List Stuck → Case
-served_case i kinds = record (fails i kinds) { home = inside served; words = seven ∷ seven ∷ []; cells = a_cell 9 served (Elsewhere Root) ∷ [] }
+served_case i kinds = record (fails i kinds) { receiver = inside served; words = seven ∷ seven ∷ []; cells = a_cell 9 served (Elsewhere Root) ∷ [] }
 
 abbrev pub owing_case : Instr → Phase → ℤ → List Stuck → Case
 owing_case i phase status kinds = record (served_case i kinds) { cells = owing phase status }
 
 -- an active object that no native serves
 abbrev pub unserved_case : Instr → List Stuck → Case
-unserved_case i kinds = record (served_case i kinds) { home = inside waiter; cells = a_cell 9 waiter (Elsewhere Root) ∷ [] }
+unserved_case i kinds = record (served_case i kinds) { receiver = inside waiter; cells = a_cell 9 waiter (Elsewhere Root) ∷ [] }
 
 -- a register that is written owns
 abbrev pub owning_case : Instr → List Stuck → Case
@@ -75,7 +75,7 @@ pub record Found : Type 0 where
   pub status : ℤ
 
 -- an instruction, with the natives that are killed, the session open or not, and what the native answers
-pub record Heard_case : Type 0 where
+pub record Observed_case : Type 0 where
   pub instr : Instr
   pub killed : List ℕ
   pub session : Bool
@@ -85,15 +85,15 @@ pub record Heard_case : Type 0 where
 abbrev pub finds : Option ℤ → Bool → ℤ → Found
 finds word session status = record { word = word; session = session; status = status }
 
-abbrev pub hears : Instr → List ℕ → Bool → ℤ → Found → Heard_case
-hears i killed session answer found = record { instr = i; killed = killed; session = session; answer = answer; finds = found }
+abbrev pub observes : Instr → List ℕ → Bool → ℤ → Found → Observed_case
+observes i killed session answer found = record { instr = i; killed = killed; session = session; answer = answer; finds = found }
 
 -- the object is enlisted and idle
-abbrev pub case_of : Heard_case → Case
+abbrev pub case_of : Observed_case → Case
 case_of h = record (served_case h.instr []) { cells = record (a_cell 9 served (Elsewhere Root)) { request = Some (record { order = 0; priority = pos 0; phase = Idle; status = pos 0; timer = None; token = None }); session = h.session } ∷ [] }
 
-abbrev pub heard_in : Heard_case → State
-heard_in h = let s = begins (case_of h) in record s { killed = h.killed }
+abbrev pub observed_in : Observed_case → State
+observed_in h = let s = begins (case_of h) in record s { killed = h.killed }
 
 abbrev pub found_by : State → List Task → Option Found
 found_by s (Run fr ∷ ts) = Some (finds (word fr 0) (in_session s.cells 9) (status_of (requested s.cells 9)))
@@ -103,47 +103,47 @@ abbrev pub found_in : Outcome → Option Found
 found_in (Goes s) = found_by s s.tasks
 found_in (IsStuck kind) = None
 
-abbrev pub AllFind : List Heard_case → Type 0
+abbrev pub AllFind : List Observed_case → Type 0
 AllFind [] = Unit {0}
-AllFind (h ∷ hs) = (found_in (step (image_of (case_of h)) (record { name = 99; refused = false; answer = h.answer }) (heard_in h)) ≡ Some h.finds) × AllFind hs
+AllFind (h ∷ hs) = (found_in (step (image_of (case_of h)) (record { name = 99; refused = false; answer = h.answer }) (observed_in h)) ≡ Some h.finds) × AllFind hs
 
 -- a session that is open is not opened anew, and one that is declined is not open; the death of another native counts for nothing
-abbrev pub connecting : List Heard_case
+abbrev pub connecting : List Observed_case
 connecting =
-    hears (Connect 0) [] false (pos 5) (finds (Some (pos 0)) true (pos 0))
-    ∷ hears (Connect 0) [] false (negsuc 6) (finds (Some (negsuc 6)) false (pos 0))
-    ∷ hears (Connect 0) [] true (negsuc 6) (finds (Some (pos 0)) true (pos 0))
-    ∷ hears (Connect 0) (1 ∷ []) false (pos 0) (finds (Some (pos 0)) true (pos 0))
-    ∷ hears (Connect 0) (0 ∷ []) false (pos 5) (finds (Some (negsuc 0)) false (pos 0))
-    ∷ hears (Connect 0) (1 ∷ 0 ∷ []) true (pos 5) (finds (Some (negsuc 0)) false (pos 0))
+    observes (Connect 0) [] false (pos 5) (finds (Some (pos 0)) true (pos 0))
+    ∷ observes (Connect 0) [] false (negsuc 6) (finds (Some (negsuc 6)) false (pos 0))
+    ∷ observes (Connect 0) [] true (negsuc 6) (finds (Some (pos 0)) true (pos 0))
+    ∷ observes (Connect 0) (1 ∷ []) false (pos 0) (finds (Some (pos 0)) true (pos 0))
+    ∷ observes (Connect 0) (0 ∷ []) false (pos 5) (finds (Some (negsuc 0)) false (pos 0))
+    ∷ observes (Connect 0) (1 ∷ 0 ∷ []) true (pos 5) (finds (Some (negsuc 0)) false (pos 0))
     ∷ []
 
 -- it is answered while a session is open, and a native that is killed comes before a session that is not
-abbrev pub asking : List Heard_case
+abbrev pub asking : List Observed_case
 asking =
-    hears (Ask 0 0 1) [] true (pos 5) (finds (Some (pos 5)) true (pos 0))
-    ∷ hears (Ask 0 0 1) [] true (negsuc 6) (finds (Some (negsuc 6)) true (pos 0))
-    ∷ hears (Ask 0 0 1) [] false (pos 5) (finds (Some (negsuc 0)) false (pos 0))
-    ∷ hears (Ask 0 0 1) (0 ∷ []) true (pos 5) (finds (Some (negsuc 14)) true (pos 0))
-    ∷ hears (Ask 0 0 1) (0 ∷ []) false (pos 5) (finds (Some (negsuc 14)) false (pos 0))
+    observes (Ask 0 0 1) [] true (pos 5) (finds (Some (pos 5)) true (pos 0))
+    ∷ observes (Ask 0 0 1) [] true (negsuc 6) (finds (Some (negsuc 6)) true (pos 0))
+    ∷ observes (Ask 0 0 1) [] false (pos 5) (finds (Some (negsuc 0)) false (pos 0))
+    ∷ observes (Ask 0 0 1) (0 ∷ []) true (pos 5) (finds (Some (negsuc 14)) true (pos 0))
+    ∷ observes (Ask 0 0 1) (0 ∷ []) false (pos 5) (finds (Some (negsuc 14)) false (pos 0))
     ∷ []
 
 -- a request that the native takes is pending, and all else completes it at once
-abbrev pub issuing : List Heard_case
+abbrev pub issuing : List Observed_case
 issuing =
-    hears (Issue 0 1) [] true (pos 5) (finds seven true pending)
-    ∷ hears (Issue 0 1) [] true (negsuc 6) (finds seven true (negsuc 6))
-    ∷ hears (Issue 0 1) [] true pending (finds seven true (negsuc 1))
-    ∷ hears (Issue 0 1) [] false (pos 5) (finds seven false (negsuc 0))
-    ∷ hears (Issue 0 1) (0 ∷ []) true (pos 5) (finds seven true (negsuc 14))
-    ∷ hears (Issue 0 1) (0 ∷ []) false (pos 5) (finds seven false (negsuc 14))
+    observes (Issue 0 1) [] true (pos 5) (finds seven true pending)
+    ∷ observes (Issue 0 1) [] true (negsuc 6) (finds seven true (negsuc 6))
+    ∷ observes (Issue 0 1) [] true pending (finds seven true (negsuc 1))
+    ∷ observes (Issue 0 1) [] false (pos 5) (finds seven false (negsuc 0))
+    ∷ observes (Issue 0 1) (0 ∷ []) true (pos 5) (finds seven true (negsuc 14))
+    ∷ observes (Issue 0 1) (0 ∷ []) false (pos 5) (finds seven false (negsuc 14))
     ∷ []
 
-abbrev pub closing : List Heard_case
+abbrev pub closing : List Observed_case
 closing =
-    hears Close [] true (pos 5) (finds seven false (pos 0))
-    ∷ hears Close (0 ∷ []) true (pos 5) (finds seven false (pos 0))
-    ∷ hears Close [] false (pos 5) (finds seven false (pos 0))
+    observes Close [] true (pos 5) (finds seven false (pos 0))
+    ∷ observes Close (0 ∷ []) true (pos 5) (finds seven false (pos 0))
+    ∷ observes Close [] false (pos 5) (finds seven false (pos 0))
     ∷ []
 
 -- 2^31 - 1 and -2^31 are words, 2^31 and -2^31 - 1 are none: no choice with such an answer is open, and no native that is polled completes with such a code

@@ -19,36 +19,36 @@ move_cases =
 abbrev pub field_cases : List Case
 field_cases =
     -- the object has such a field, as main has the root
-    record (fails (JumpEmpty 1 0) []) { home = inside pair }
-    ∷ record (fails (JumpEmpty 0 0) []) { home = AtRoot }
+    record (fails (JumpEmpty 1 0) []) { receiver = inside pair }
+    ∷ record (fails (JumpEmpty 0 0) []) { receiver = AtRoot }
     ∷ fails (JumpEmpty 0 0) (WrongKind ∷ [])
-    ∷ record (fails (JumpEmpty 1 0) (WrongKind ∷ [])) { home = AtRoot }
-    ∷ record (fails (JumpEmpty 2 0) (WrongKind ∷ [])) { home = inside pair }
+    ∷ record (fails (JumpEmpty 1 0) (WrongKind ∷ [])) { receiver = AtRoot }
+    ∷ record (fails (JumpEmpty 2 0) (WrongKind ∷ [])) { receiver = inside pair }
     -- a method of an ancestor reaches the fields of its own class, and none that the child declares
-    ∷ record (fails (JumpEmpty 2 0) []) { home = inside child }
-    ∷ record (fails (JumpEmpty 1 0) []) { home = inside child; class = Some 1 }
-    ∷ record (fails (JumpEmpty 2 0) (WrongKind ∷ [])) { home = inside child; class = Some 1 }
-    ∷ record (fails (Take 0 2) (WrongKind ∷ [])) { home = inside child; class = Some 1; cells = a_cell 1 leaf (Field 9 2) ∷ [] }
-    ∷ record (fails (Put 2 0) (WrongKind ∷ [])) { home = inside child; class = Some 1; cells = a_cell 1 leaf (mine 0) ∷ [] }
-    ∷ record (fails (Put 2 0) []) { home = inside child; cells = a_cell 1 leaf (mine 0) ∷ [] }
-    ∷ record (fails (Take 0 1) []) { home = inside pair }
-    ∷ record (fails (Take 0 2) (WrongKind ∷ [])) { home = inside pair }
+    ∷ record (fails (JumpEmpty 2 0) []) { receiver = inside child }
+    ∷ record (fails (JumpEmpty 1 0) []) { receiver = inside child; class = Some 1 }
+    ∷ record (fails (JumpEmpty 2 0) (WrongKind ∷ [])) { receiver = inside child; class = Some 1 }
+    ∷ record (fails (Take 0 2) (WrongKind ∷ [])) { receiver = inside child; class = Some 1; cells = a_cell 1 leaf (Field 9 2) ∷ [] }
+    ∷ record (fails (Put 2 0) (WrongKind ∷ [])) { receiver = inside child; class = Some 1; cells = a_cell 1 leaf (mine 0) ∷ [] }
+    ∷ record (fails (Put 2 0) []) { receiver = inside child; cells = a_cell 1 leaf (mine 0) ∷ [] }
+    ∷ record (fails (Take 0 1) []) { receiver = inside pair }
+    ∷ record (fails (Take 0 2) (WrongKind ∷ [])) { receiver = inside pair }
     ∷ fails (Take 0 0) (WrongKind ∷ [])
-    ∷ record (fails (Take 0 1) (Orphan ∷ [])) { home = inside pair; cells = a_cell 1 leaf (mine 0) ∷ [] }
-    ∷ record (fails (Take 0 2) (WrongKind ∷ Orphan ∷ [])) { home = inside pair; cells = a_cell 1 leaf (mine 0) ∷ [] }
+    ∷ record (fails (Take 0 1) (Orphan ∷ [])) { receiver = inside pair; cells = a_cell 1 leaf (mine 0) ∷ [] }
+    ∷ record (fails (Take 0 2) (WrongKind ∷ Orphan ∷ [])) { receiver = inside pair; cells = a_cell 1 leaf (mine 0) ∷ [] }
     -- what is put is what the field is declared for, or null, and the field is null
-    ∷ record (fails (Put 0 0) []) { home = inside pair; cells = a_cell 1 leaf (mine 0) ∷ [] }
-    ∷ record (fails (Put 0 0) []) { home = inside pair }
-    ∷ record (fails (Put 0 0) []) { home = AtRoot; cells = a_cell 1 pair (mine 0) ∷ [] }
-    ∷ record (fails (Put 0 0) (WrongKind ∷ [])) { home = inside pair; words = seven ∷ [] }
-    ∷ record (fails (Put 0 0) (WrongKind ∷ [])) { home = inside pair; cells = a_cell 1 pair (mine 0) ∷ [] }
-    ∷ record (fails (Put 0 0) (WrongKind ∷ [])) { home = inside pair; cells = a_cell 1 Message (mine 0) ∷ [] }
-    ∷ record (fails (Put 2 0) (WrongKind ∷ [])) { home = inside pair; cells = a_cell 1 leaf (mine 0) ∷ [] }
+    ∷ record (fails (Put 0 0) []) { receiver = inside pair; cells = a_cell 1 leaf (mine 0) ∷ [] }
+    ∷ record (fails (Put 0 0) []) { receiver = inside pair }
+    ∷ record (fails (Put 0 0) []) { receiver = AtRoot; cells = a_cell 1 pair (mine 0) ∷ [] }
+    ∷ record (fails (Put 0 0) (WrongKind ∷ [])) { receiver = inside pair; words = seven ∷ [] }
+    ∷ record (fails (Put 0 0) (WrongKind ∷ [])) { receiver = inside pair; cells = a_cell 1 pair (mine 0) ∷ [] }
+    ∷ record (fails (Put 0 0) (WrongKind ∷ [])) { receiver = inside pair; cells = a_cell 1 Message (mine 0) ∷ [] }
+    ∷ record (fails (Put 2 0) (WrongKind ∷ [])) { receiver = inside pair; cells = a_cell 1 leaf (mine 0) ∷ [] }
     ∷ fails (Put 0 0) (WrongKind ∷ [])
-    ∷ record (fails (Put 0 0) (Orphan ∷ [])) { home = inside pair; cells = a_cell 1 leaf (mine 0) ∷ a_cell 2 leaf (Field 9 0) ∷ [] }
-    ∷ record (fails (Put 0 0) (Orphan ∷ [])) { home = inside pair; cells = a_cell 2 leaf (Field 9 0) ∷ [] }
-    ∷ record (fails (Put 0 0) (Orphan ∷ [])) { home = AtRoot; cells = a_cell 1 pair (mine 0) ∷ a_cell 2 pair (Elsewhere Root) ∷ [] }
-    ∷ record (fails (Put 0 0) (WrongKind ∷ WrongKind ∷ Orphan ∷ [])) { home = inside pair; words = seven ∷ []; cells = a_cell 1 pair (mine 0) ∷ a_cell 2 leaf (Field 9 0) ∷ [] }
+    ∷ record (fails (Put 0 0) (Orphan ∷ [])) { receiver = inside pair; cells = a_cell 1 leaf (mine 0) ∷ a_cell 2 leaf (Field 9 0) ∷ [] }
+    ∷ record (fails (Put 0 0) (Orphan ∷ [])) { receiver = inside pair; cells = a_cell 2 leaf (Field 9 0) ∷ [] }
+    ∷ record (fails (Put 0 0) (Orphan ∷ [])) { receiver = AtRoot; cells = a_cell 1 pair (mine 0) ∷ a_cell 2 pair (Elsewhere Root) ∷ [] }
+    ∷ record (fails (Put 0 0) (WrongKind ∷ WrongKind ∷ Orphan ∷ [])) { receiver = inside pair; words = seven ∷ []; cells = a_cell 1 pair (mine 0) ∷ a_cell 2 leaf (Field 9 0) ∷ [] }
     ∷ []
 
 abbrev pub cell_cases : List Case

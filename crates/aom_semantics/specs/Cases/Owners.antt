@@ -4,10 +4,10 @@ use Rattle.aom_image.specs.Image.{Image}
 use Rattle.aom_image.specs.declared.method.Gives.TheVariants.{Nothing}
 use Rattle.aom_image.specs.declared.method.Thing.TheVariants.{Message}
 use Rattle.aom_semantics.specs.Places.{Place, Register, Entry, Field, Going, Elsewhere, Root, Cell, Session, In_service, Queued, Message_of, Service, unserved}
-use Rattle.aom_semantics.specs.State.{Static, frame_of, Task, Run, Trapped, Destroy, Closing, Unwind, Dispatched, Of_main, Of_object, Of_server, Stage, Accepts, Serves, Service_left, Parts, Item, An_object, An_operation, A_mark}
+use Rattle.aom_semantics.specs.State.{Static, frame_of, Task, Run, Trapped, Destroy, Closing, Unwind, Dispatched, Of_main, Of_object, Of_server, Stage, Accepts, Serves, Service_left, Disconnects, Item, An_object, An_operation, A_mark}
 use Rattle.aom_semantics.specs.Owned.{Owned}
 use Rattle.aom_semantics.specs.Cases.Building.{leaf, pair, a_method, a_cell, at_bottom, small_image, state_of}
-use Rattle.aom_semantics.specs.Cases.Servers.{a_server, a_session, asked, its_session, seat}
+use Rattle.aom_semantics.specs.Cases.Servers.{a_server, a_session, asked, its_session, owned_object}
 
 abbrev pub an_image : Image
 an_image = small_image (a_method None [] Nothing []) (a_method None [] Nothing [])
@@ -40,7 +40,7 @@ OwnedBeside v place = OwnedBy an_image caught_tasks (a_cell 1 leaf place ∷ a_s
 
 -- a message is owned so at that stage of the server's dispatch, beside the session that serves
 abbrev pub OwnedAtStage : Stage → Place → Type 0
-OwnedAtStage stage place = OwnedBy an_image (Dispatched (Of_server seat 0 stage) ∷ []) (a_cell 1 Message place ∷ a_session ∷ a_server one_session ∷ [])
+OwnedAtStage stage place = OwnedBy an_image (Dispatched (Of_server owned_object 0 stage) ∷ []) (a_cell 1 Message place ∷ a_session ∷ a_server one_session ∷ [])
 
 pub record OwnerNeedsFail : Type 0 where
   -- these own: a register of the method that waits, the object's item, a field of the pair, and the root
@@ -77,8 +77,8 @@ pub record OwnerNeedsFail : Type 0 where
   pub queue_of_none : OwnedBeside (asked (Message_of 0 1 ∷ [])) (Elsewhere (Queued 6 1)) → ⊥
   -- nothing in service where a connect or a close is served, or all is served
   pub accepting : OwnedAtStage Accepts (Elsewhere In_service) → ⊥
-  pub parting : OwnedAtStage Parts (Elsewhere In_service) → ⊥
-  pub all_served : OwnedBy an_image (Dispatched (Of_object seat) ∷ []) (a_cell 1 Message (Elsewhere In_service) ∷ a_server unserved ∷ []) → ⊥
+  pub parting : OwnedAtStage Disconnects (Elsewhere In_service) → ⊥
+  pub all_served : OwnedBy an_image (Dispatched (Of_object owned_object) ∷ []) (a_cell 1 Message (Elsewhere In_service) ∷ a_server unserved ∷ []) → ⊥
   -- and where nobody is served no session, nothing in service and no queue
   pub session : OwnedAt (Elsewhere (Session 5 0)) → ⊥
   pub service : OwnedAt (Elsewhere In_service) → ⊥

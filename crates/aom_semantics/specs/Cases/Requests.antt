@@ -12,7 +12,7 @@ listed phase = record (a_cell 9 waiter (Elsewhere Root)) { request = Some (recor
 
 -- a method of an active object that is not enlisted, and of one whose request is so far
 abbrev pub unlisted_case : Instr → List Stuck → Case
-unlisted_case i kinds = record (fails i kinds) { home = inside waiter; words = seven ∷ seven ∷ []; cells = a_cell 9 waiter (Elsewhere Root) ∷ [] }
+unlisted_case i kinds = record (fails i kinds) { receiver = inside waiter; words = seven ∷ seven ∷ []; cells = a_cell 9 waiter (Elsewhere Root) ∷ [] }
 
 abbrev pub listed_case : Instr → Phase → List Stuck → Case
 listed_case i phase kinds = record (unlisted_case i kinds) { cells = listed phase }
@@ -21,8 +21,8 @@ listed_case i phase kinds = record (unlisted_case i kinds) { cells = listed phas
 abbrev pub elsewhere_cases : Instr → List Stuck → List Case
 elsewhere_cases i kinds =
     record (fails i kinds) { words = seven ∷ seven ∷ [] }
-    ∷ record (fails i kinds) { home = AtRoot; words = seven ∷ seven ∷ [] }
-    ∷ record (fails i kinds) { home = inside pair; words = seven ∷ seven ∷ [] }
+    ∷ record (fails i kinds) { receiver = AtRoot; words = seven ∷ seven ∷ [] }
+    ∷ record (fails i kinds) { receiver = inside pair; words = seven ∷ seven ∷ [] }
     ∷ []
 
 -- what reads the request alone
@@ -30,11 +30,11 @@ abbrev pub reading_cases : List Case
 reading_cases =
     unlisted_case (JumpActive 0) []
     ∷ listed_case (JumpActive 0) Active []
-    ∷ record (unlisted_case (JumpActive 0) (WrongKind ∷ [])) { home = inside keeper }
+    ∷ record (unlisted_case (JumpActive 0) (WrongKind ∷ [])) { receiver = inside keeper }
     ∷ unlisted_case (JumpAdded 0) []
-    ∷ record (unlisted_case (JumpAdded 0) []) { home = inside keeper }
+    ∷ record (unlisted_case (JumpAdded 0) []) { receiver = inside keeper }
     ∷ record (unlisted_case (Status 0) []) { words = [] }
-    ∷ record (unlisted_case (Status 0) (WrongKind ∷ [])) { home = inside keeper }
+    ∷ record (unlisted_case (Status 0) (WrongKind ∷ [])) { receiver = inside keeper }
     -- what is written owns
     ∷ record (unlisted_case (Status 0) (Orphan ∷ [])) { cells = a_cell 1 leaf (mine 0) ∷ [] }
     ∷ (elsewhere_cases (JumpActive 0) (WrongKind ∷ []) ++ (elsewhere_cases (JumpAdded 0) (WrongKind ∷ []) ++ elsewhere_cases (Status 0) (WrongKind ∷ [])))
@@ -42,7 +42,7 @@ reading_cases =
 abbrev pub enlist_cases : List Case
 enlist_cases =
     unlisted_case (Enlist (pos 0)) []
-    ∷ record (unlisted_case (Enlist (pos 0)) []) { home = inside keeper }
+    ∷ record (unlisted_case (Enlist (pos 0)) []) { receiver = inside keeper }
     ∷ listed_case (Enlist (pos 0)) Idle (AddedWrong ∷ [])
     ∷ elsewhere_cases (Enlist (pos 0)) (WrongKind ∷ [])
 

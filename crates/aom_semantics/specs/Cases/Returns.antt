@@ -16,8 +16,8 @@ abbrev pub waits : Task
 waits = Run (frame_of 0 Static 1)
 
 -- a method that gives this returns to it
-abbrev pub gives_back : Gives → List Stuck → Case
-gives_back gives kinds = record (fails (Return 0) kinds) { gives = gives; below = waits ∷ at_bottom }
+abbrev pub return_case : Gives → List Stuck → Case
+return_case gives kinds = record (fails (Return 0) kinds) { gives = gives; below = waits ∷ at_bottom }
 
 -- a register of the method that returns
 abbrev pub its : ℕ → Place
@@ -25,21 +25,21 @@ its r = Register 3 r
 
 abbrev pub given_cases : List Case
 given_cases =
-    gives_back Nothing []
+    return_case Nothing []
     -- a word
-    ∷ record (gives_back A_word []) { words = seven ∷ [] }
-    ∷ gives_back A_word (WrongKind ∷ [])
+    ∷ record (return_case A_word []) { words = seven ∷ [] }
+    ∷ return_case A_word (WrongKind ∷ [])
     -- an object: the register has a word, is null, or owns another thing
-    ∷ record (gives_back (An_own leaf) []) { cells = a_cell 1 leaf (its 0) ∷ [] }
-    ∷ record (gives_back (An_own leaf) (WrongKind ∷ [])) { words = seven ∷ []; cells = a_cell 1 leaf (its 0) ∷ [] }
-    ∷ gives_back (An_own leaf) (NullOrDead ∷ [])
-    ∷ record (gives_back (An_own leaf) (WrongKind ∷ [])) { cells = a_cell 1 pair (its 0) ∷ [] }
-    ∷ record (gives_back (An_own leaf) (WrongKind ∷ NullOrDead ∷ [])) { words = seven ∷ [] }
+    ∷ record (return_case (An_own leaf) []) { cells = a_cell 1 leaf (its 0) ∷ [] }
+    ∷ record (return_case (An_own leaf) (WrongKind ∷ [])) { words = seven ∷ []; cells = a_cell 1 leaf (its 0) ∷ [] }
+    ∷ return_case (An_own leaf) (NullOrDead ∷ [])
+    ∷ record (return_case (An_own leaf) (WrongKind ∷ [])) { cells = a_cell 1 pair (its 0) ∷ [] }
+    ∷ record (return_case (An_own leaf) (WrongKind ∷ NullOrDead ∷ [])) { words = seven ∷ [] }
     -- an object or null
-    ∷ gives_back (A_maybe leaf) []
-    ∷ record (gives_back (A_maybe leaf) []) { cells = a_cell 1 leaf (its 0) ∷ [] }
-    ∷ record (gives_back (A_maybe leaf) (WrongKind ∷ [])) { words = seven ∷ [] }
-    ∷ record (gives_back (A_maybe leaf) (WrongKind ∷ [])) { cells = a_cell 1 Message (its 0) ∷ [] }
+    ∷ return_case (A_maybe leaf) []
+    ∷ record (return_case (A_maybe leaf) []) { cells = a_cell 1 leaf (its 0) ∷ [] }
+    ∷ record (return_case (A_maybe leaf) (WrongKind ∷ [])) { words = seven ∷ [] }
+    ∷ record (return_case (A_maybe leaf) (WrongKind ∷ [])) { cells = a_cell 1 Message (its 0) ∷ [] }
     ∷ []
 
 -- the cleanup stack is as high as at first: it has an item less, or one more
@@ -53,29 +53,29 @@ level_cases good =
 -- where an object is left, just one more item lies there, and it owns an object of that class
 abbrev pub left_cases : List Case
 left_cases =
-    record (gives_back (Left 0) []) { items = An_object ∷ A_mark ∷ []; cells = a_cell 1 leaf (Entry 1) ∷ [] }
-    ∷ gives_back (Left 0) (Unbalanced ∷ [])
-    ∷ record (gives_back (Left 0) (Unbalanced ∷ [])) { items = [] }
-    ∷ record (gives_back (Left 0) (Unbalanced ∷ [])) { items = A_mark ∷ A_mark ∷ []; cells = a_cell 1 leaf (Entry 1) ∷ [] }
-    ∷ record (gives_back (Left 0) (Unbalanced ∷ [])) { items = An_operation 1 (pos 7) ∷ A_mark ∷ []; cells = a_cell 1 leaf (Entry 1) ∷ [] }
-    ∷ record (gives_back (Left 0) (Unbalanced ∷ [])) { items = An_object ∷ An_object ∷ A_mark ∷ []; cells = a_cell 1 leaf (Entry 2) ∷ [] }
-    ∷ record (gives_back (Left 0) (Unbalanced ∷ [])) { items = An_object ∷ A_mark ∷ [] }
-    ∷ record (gives_back (Left 0) (Unbalanced ∷ [])) { items = An_object ∷ A_mark ∷ []; cells = a_cell 1 pair (Entry 1) ∷ [] }
+    record (return_case (Left 0) []) { items = An_object ∷ A_mark ∷ []; cells = a_cell 1 leaf (Entry 1) ∷ [] }
+    ∷ return_case (Left 0) (Unbalanced ∷ [])
+    ∷ record (return_case (Left 0) (Unbalanced ∷ [])) { items = [] }
+    ∷ record (return_case (Left 0) (Unbalanced ∷ [])) { items = A_mark ∷ A_mark ∷ []; cells = a_cell 1 leaf (Entry 1) ∷ [] }
+    ∷ record (return_case (Left 0) (Unbalanced ∷ [])) { items = An_operation 1 (pos 7) ∷ A_mark ∷ []; cells = a_cell 1 leaf (Entry 1) ∷ [] }
+    ∷ record (return_case (Left 0) (Unbalanced ∷ [])) { items = An_object ∷ An_object ∷ A_mark ∷ []; cells = a_cell 1 leaf (Entry 2) ∷ [] }
+    ∷ record (return_case (Left 0) (Unbalanced ∷ [])) { items = An_object ∷ A_mark ∷ [] }
+    ∷ record (return_case (Left 0) (Unbalanced ∷ [])) { items = An_object ∷ A_mark ∷ []; cells = a_cell 1 pair (Entry 1) ∷ [] }
     ∷ []
 
 -- no register is left that owns, but for the result's
 abbrev pub owner_cases : List Case
 owner_cases =
-    record (gives_back Nothing (Orphan ∷ [])) { cells = a_cell 1 leaf (its 0) ∷ [] }
-    ∷ record (gives_back Nothing (Orphan ∷ [])) { cells = a_cell 1 leaf (its 3) ∷ [] }
+    record (return_case Nothing (Orphan ∷ [])) { cells = a_cell 1 leaf (its 0) ∷ [] }
+    ∷ record (return_case Nothing (Orphan ∷ [])) { cells = a_cell 1 leaf (its 3) ∷ [] }
     -- one of the method that waits may
-    ∷ record (gives_back Nothing []) { cells = a_cell 1 leaf (mine 3) ∷ [] }
-    ∷ record (gives_back A_word (Orphan ∷ [])) { words = seven ∷ []; cells = a_cell 1 leaf (its 0) ∷ [] }
-    ∷ record (gives_back (An_own leaf) (Orphan ∷ [])) { cells = a_cell 1 leaf (its 0) ∷ a_cell 2 leaf (its 3) ∷ [] }
-    ∷ record (gives_back (A_maybe leaf) (Orphan ∷ [])) { cells = a_cell 2 leaf (its 3) ∷ [] }
-    ∷ record (gives_back (Left 0) (Orphan ∷ [])) { items = An_object ∷ A_mark ∷ []; cells = a_cell 1 leaf (Entry 1) ∷ a_cell 2 leaf (its 3) ∷ [] }
+    ∷ record (return_case Nothing []) { cells = a_cell 1 leaf (mine 3) ∷ [] }
+    ∷ record (return_case A_word (Orphan ∷ [])) { words = seven ∷ []; cells = a_cell 1 leaf (its 0) ∷ [] }
+    ∷ record (return_case (An_own leaf) (Orphan ∷ [])) { cells = a_cell 1 leaf (its 0) ∷ a_cell 2 leaf (its 3) ∷ [] }
+    ∷ record (return_case (A_maybe leaf) (Orphan ∷ [])) { cells = a_cell 2 leaf (its 3) ∷ [] }
+    ∷ record (return_case (Left 0) (Orphan ∷ [])) { items = An_object ∷ A_mark ∷ []; cells = a_cell 1 leaf (Entry 1) ∷ a_cell 2 leaf (its 3) ∷ [] }
     -- the result is asked for first, then the cleanup stack
-    ∷ record (gives_back A_word (WrongKind ∷ Unbalanced ∷ Orphan ∷ [])) { items = []; cells = a_cell 1 leaf (its 0) ∷ [] }
+    ∷ record (return_case A_word (WrongKind ∷ Unbalanced ∷ Orphan ∷ [])) { items = []; cells = a_cell 1 leaf (its 0) ∷ [] }
     ∷ []
 
 -- a method that gives nothing ends over these tasks
@@ -88,7 +88,7 @@ waiting_cases =
     ends_over (waits ∷ at_bottom) []
     ∷ ends_over (Trapped ∷ waits ∷ at_bottom) []
     ∷ ends_over at_bottom []
-    ∷ record (ends_over (Destroy ∷ at_bottom) []) { home = inside pair }
+    ∷ record (ends_over (Destroy ∷ at_bottom) []) { receiver = inside pair }
     ∷ ends_over (Unwind (pos 7) ∷ at_bottom) []
     -- nothing waits for it, or what stands below waits for no method
     ∷ ends_over [] (Unbalanced ∷ [])
@@ -103,23 +103,23 @@ waiting_cases =
     ∷ record (ends_over at_bottom (Unbalanced ∷ Unbalanced ∷ [])) { items = [] }
     -- a destructor works on a cell, and leaves no field that owns: an object there is an orphan, and a message is lost
     ∷ ends_over (Destroy ∷ at_bottom) (Orphan ∷ [])
-    ∷ record (ends_over (Destroy ∷ at_bottom) (Orphan ∷ [])) { home = inside pair; cells = a_cell 1 leaf (Field 9 0) ∷ [] }
-    ∷ record (ends_over (Destroy ∷ at_bottom) (MessageLost ∷ [])) { home = inside pair; cells = a_cell 1 Message (Field 9 1) ∷ [] }
-    ∷ record (ends_over (Destroy ∷ at_bottom) (Orphan ∷ MessageLost ∷ [])) { home = inside pair; cells = a_cell 1 Message (Field 9 1) ∷ a_cell 2 leaf (Field 9 0) ∷ [] }
-    ∷ record (ends_over (Destroy ∷ at_bottom) []) { home = inside pair; cells = a_cell 1 leaf (Field 5 0) ∷ a_cell 2 Message (Field 5 1) ∷ [] }
+    ∷ record (ends_over (Destroy ∷ at_bottom) (Orphan ∷ [])) { receiver = inside pair; cells = a_cell 1 leaf (Field 9 0) ∷ [] }
+    ∷ record (ends_over (Destroy ∷ at_bottom) (MessageLost ∷ [])) { receiver = inside pair; cells = a_cell 1 Message (Field 9 1) ∷ [] }
+    ∷ record (ends_over (Destroy ∷ at_bottom) (Orphan ∷ MessageLost ∷ [])) { receiver = inside pair; cells = a_cell 1 Message (Field 9 1) ∷ a_cell 2 leaf (Field 9 0) ∷ [] }
+    ∷ record (ends_over (Destroy ∷ at_bottom) []) { receiver = inside pair; cells = a_cell 1 leaf (Field 5 0) ∷ a_cell 2 Message (Field 5 1) ∷ [] }
     -- a child's leaves none past its parent's, whose destructor leaves none
-    ∷ record (ends_over (Destroy ∷ at_bottom) []) { home = inside child; cells = a_cell 1 Message (Field 9 1) ∷ a_cell 2 leaf (Field 9 0) ∷ [] }
-    ∷ record (ends_over (Destroy ∷ at_bottom) (Orphan ∷ [])) { home = inside child; cells = a_cell 1 leaf (Field 9 2) ∷ [] }
-    ∷ record (ends_over (Destroy ∷ at_bottom) (Orphan ∷ [])) { home = inside child; class = Some 1; cells = a_cell 1 leaf (Field 9 0) ∷ [] }
-    ∷ record (ends_over (Destroy ∷ at_bottom) (Orphan ∷ [])) { home = inside child; class = Some 1; cells = a_cell 1 leaf (Field 9 2) ∷ [] }
+    ∷ record (ends_over (Destroy ∷ at_bottom) []) { receiver = inside child; cells = a_cell 1 Message (Field 9 1) ∷ a_cell 2 leaf (Field 9 0) ∷ [] }
+    ∷ record (ends_over (Destroy ∷ at_bottom) (Orphan ∷ [])) { receiver = inside child; cells = a_cell 1 leaf (Field 9 2) ∷ [] }
+    ∷ record (ends_over (Destroy ∷ at_bottom) (Orphan ∷ [])) { receiver = inside child; class = Some 1; cells = a_cell 1 leaf (Field 9 0) ∷ [] }
+    ∷ record (ends_over (Destroy ∷ at_bottom) (Orphan ∷ [])) { receiver = inside child; class = Some 1; cells = a_cell 1 leaf (Field 9 2) ∷ [] }
     ∷ []
 
 -- a method of that role returns, and the request of what it works on is so far, with that status
 abbrev pub asked : Role → Phase → ℤ → List Stuck → Case
 asked role phase status kinds =
-    record (gives_back Nothing kinds) {
+    record (return_case Nothing kinds) {
       role = role;
-      home = inside waiter;
+      receiver = inside waiter;
       cells = record (a_cell 9 waiter (Elsewhere Root)) { request = Some (record { order = 0; priority = pos 0; phase = phase; status = status; timer = None; token = None }) } ∷ [];
     }
 
@@ -142,10 +142,10 @@ pub record ReturnNeedsFail : Type 0 where
   pub given : AllComeOut given_cases
   pub level :
       AllComeOut (
-      level_cases (gives_back Nothing [])
-      ++ (level_cases (record (gives_back A_word []) { words = seven ∷ [] })
-      ++ (level_cases (record (gives_back (An_own leaf) []) { cells = a_cell 1 leaf (its 0) ∷ [] })
-      ++ level_cases (gives_back (A_maybe leaf) [])))
+      level_cases (return_case Nothing [])
+      ++ (level_cases (record (return_case A_word []) { words = seven ∷ [] })
+      ++ (level_cases (record (return_case (An_own leaf) []) { cells = a_cell 1 leaf (its 0) ∷ [] })
+      ++ level_cases (return_case (A_maybe leaf) [])))
       )
   pub left : AllComeOut left_cases
   pub owners : AllComeOut owner_cases

@@ -5,7 +5,7 @@ use Rattle.aom_image.specs.declared.method.Gives.TheVariants.{Own as An_own}
 use Rattle.aom_image.specs.declared.method.Role.TheVariants.{Do, Service as Attends}
 use Rattle.aom_image.specs.declared.method.Thing.TheVariants.{Message}
 use Rattle.aom_semantics.specs.Places.{Asked, Cell, Close_of, Connect_of, Elsewhere, Going, Idle, In_service, Message_of, Object, Root, Service, Session, unserved}
-use Rattle.aom_semantics.specs.State.{Accept_left, Accepted, Accepts, Closing, CompletedTwice, Destroy, Dispatched, MessageLost, NullOrDead, Of_server, Orphan, Parts, Seat, Serves, Service_left, Stage, State, Stray, Task, Trapped, Unbalanced, WrongKind, A_mark}
+use Rattle.aom_semantics.specs.State.{Accept_left, Accepted, Accepts, Closing, CompletedTwice, Destroy, Dispatched, MessageLost, NullOrDead, Of_server, Orphan, Disconnects, OwnedObject, Serves, Service_left, Stage, State, Stray, Task, Trapped, Unbalanced, WrongKind, A_mark}
 use Rattle.aom_semantics.specs.World.{Picks, Waits, turned}
 use Rattle.aom_semantics.specs.Cases.Building.{AllComeOut, Case, a_cell, at_bottom, fails, is_stuck_by, keeper, leaf, mine, missed, seven, state_of}
 use Rattle.aom_semantics.specs.Cases.Moves.{AllTurn, Turning, an_image, at}
@@ -18,8 +18,8 @@ a_server v = record (a_cell 5 keeper (Elsewhere Root)) { service = v }
 abbrev pub asked : List Asked → Service
 asked queue = record unserved { queue = queue }
 
-abbrev pub seat : Seat
-seat = record { object = record { name = 5; thing = keeper }; place = Elsewhere Root }
+abbrev pub owned_object : OwnedObject
+owned_object = record { object = record { name = 5; thing = keeper }; place = Elsewhere Root }
 
 -- the session of client 0 with it
 abbrev pub a_session : Cell
@@ -65,7 +65,7 @@ replying_cases =
 
 -- under the trap of that stage
 abbrev pub under : Stage → List Task
-under stage = Trapped ∷ Dispatched (Of_server seat 0 stage) ∷ []
+under stage = Trapped ∷ Dispatched (Of_server owned_object 0 stage) ∷ []
 
 -- `accept` gives a session, and `service` nothing
 abbrev pub accepting : Case
@@ -84,14 +84,14 @@ returning_cases =
     ∷ []
 
 abbrev pub ends_at : Stage → List Cell → State
-ends_at stage cells = state_of (Dispatched (Of_server seat 0 stage) ∷ []) cells []
+ends_at stage cells = state_of (Dispatched (Of_server owned_object 0 stage) ∷ []) cells []
 
 -- a service that was left has its message to complete, and no other end needs anything
 abbrev pub ending_cases : List Turning
 ending_cases =
     at [] (ends_at Accepted [])
     ∷ at [] (ends_at (Accept_left (pos 7)) [])
-    ∷ at [] (ends_at Parts [])
+    ∷ at [] (ends_at Disconnects [])
     ∷ at [] (ends_at (Service_left (pos 7)) (a_message ∷ []))
     ∷ at (CompletedTwice ∷ []) (ends_at (Service_left (pos 7)) [])
     ∷ []
@@ -118,9 +118,9 @@ abbrev pub signal_cases : List Turn_case
 signal_cases =
     comes_to Waits (listed (a_server unserved) ∷ [])
     ∷ comes_to Waits (a_server (asked (Connect_of 0 ∷ [])) ∷ [])
-    ∷ comes_to (Picks seat) (listed (a_server (asked (Connect_of 0 ∷ []))) ∷ [])
-    ∷ comes_to (Picks seat) (listed (a_server (asked (Message_of 0 1 ∷ []))) ∷ [])
-    ∷ comes_to (Picks seat) (listed (a_server (asked (Close_of 0 ∷ []))) ∷ [])
+    ∷ comes_to (Picks owned_object) (listed (a_server (asked (Connect_of 0 ∷ []))) ∷ [])
+    ∷ comes_to (Picks owned_object) (listed (a_server (asked (Message_of 0 1 ∷ []))) ∷ [])
+    ∷ comes_to (Picks owned_object) (listed (a_server (asked (Close_of 0 ∷ []))) ∷ [])
     ∷ []
 
 -- it has one signal, however many wait there
@@ -136,7 +136,7 @@ abbrev pub picked_with : List Asked → List Cell → State
 picked_with queue cells = state_of [] (listed (a_server (asked queue)) ∷ cells) []
 
 abbrev pub picks : Turning → Bool
-picks c = is_stuck_by c.kinds (turned an_image c.state (Picks seat))
+picks c = is_stuck_by c.kinds (turned an_image c.state (Picks owned_object))
 
 abbrev pub AllPick : List Turning → Type 0
 AllPick cases = missed 0 (map picks cases) ≡ []

@@ -19,7 +19,7 @@ use Rattle.aom_semantics.specs.Cases.Building.{AllComeOut, Case, a_cell, fails, 
 use Rattle.aom_semantics.specs.Cases.Families.{a_family}
 use Rattle.aom_semantics.specs.Cases.Programs.{a_method, main_of}
 use Rattle.aom_semantics.specs.Cases.Requests.{elsewhere_cases}
-use Rattle.aom_semantics.specs.Cases.Running.{Ends, Runs, Sticks, Told, Unended, run_of}
+use Rattle.aom_semantics.specs.Cases.Running.{Ends, RunsTo, Sticks, Reported, Unended, run_of}
 use Rattle.aom_semantics.specs.Requests.{pending}
 use Rattle.aom_semantics.specs.Places.{Aborted, Active as Waits, Cancelling, Cell, Elsewhere, Idle, Issued, Phase, Root, Token, unserved}
 use Rattle.aom_semantics.specs.State.{AddedWrong, CompletedTwice, Orphan, RequestOverlap, Stuck, WrongKind}
@@ -57,11 +57,11 @@ keeps_two construct messages =
 
 -- the first is void by then, and the second is not
 abbrev pub void_and_living : Type 0
-void_and_living = Runs 60 (keeps_two twice_handed 2) [] Waiting 1 (Run_line 1 0 (pos 8) ∷ Out (pos 8) ∷ [])
+void_and_living = RunsTo 60 (keeps_two twice_handed 2) [] Waiting 1 (Run_line 1 0 (pos 8) ∷ Out (pos 8) ∷ [])
 
 -- the void one holds the only place: the second request is completed at once
-abbrev pub crowded : Type 0
-crowded = Runs 60 (keeps_two twice_handed 1) [] Waiting 1 (Run_line 1 0 (negsuc 15) ∷ Out (negsuc 15) ∷ [])
+abbrev pub full_store_case : Type 0
+full_store_case = RunsTo 60 (keeps_two twice_handed 1) [] Waiting 1 (Run_line 1 0 (negsuc 15) ∷ Out (negsuc 15) ∷ [])
 
 -- a token of its own, in its construct and as it runs; what a pending status would be is recorded as a general error
 abbrev pub own_construct : List Instr
@@ -74,7 +74,7 @@ own_run = Status 0 ∷ Print 0 ∷ Const 1 (pos 7) ∷ JumpEqual 0 1 9 ∷ Hand 
 
 abbrev pub of_its_own : Type 0
 of_its_own =
-    Runs 60
+    RunsTo 60
     (rooted 1 0 (a_class (Active By_token) 40 0 [] ∷ []) (
     a_method (Some 0) Cancels [] Nothing aborts
     ∷ a_method (Some 0) Destruct [] Nothing (Cancel ∷ Return 0 ∷ [])
@@ -91,7 +91,7 @@ of_its_own =
 -- another object holds the token, and goes in the cancel method before it aborts: its destructor replies, and the code stays
 abbrev pub held_elsewhere : Type 0
 held_elsewhere =
-    Runs 60
+    RunsTo 60
     (rooted 1 1 (a_class Plain 20 0 (Message ∷ []) ∷ a_class (Active By_token) 40 0 (An_object_of 0 ∷ []) ∷ []) (
     a_method (Some 0) Destruct [] Nothing (Take 0 0 ∷ JumpNull 0 4 ∷ Const 1 (negsuc 14) ∷ Reply 0 1 ∷ Return 0 ∷ [])
     ∷ a_method (Some 0) Do (Takes_own Message ∷ []) Nothing (Put 0 0 ∷ Return 0 ∷ [])
@@ -126,7 +126,7 @@ of_a_child code =
 
 -- it is the root, and the run is stopped
 abbrev pub by_an_ancestor : Type 0
-by_an_ancestor = Runs 60 (of_a_child (Stop ∷ Return 0 ∷ [])) [] Stopped 0 (Gone 1 ∷ [])
+by_an_ancestor = RunsTo 60 (of_a_child (Stop ∷ Return 0 ∷ [])) [] Stopped 0 (Gone 1 ∷ [])
 
 -- the tokens that there are after so many moves
 abbrev pub or_none : Option Token → List Token → List Token
@@ -137,7 +137,7 @@ abbrev pub tokens_of : List Cell → List Token
 tokens_of [] = []
 tokens_of (c ∷ cs) = or_none c.service.token (tokens_of cs)
 
-abbrev pub tokens_after : Told → List Token
+abbrev pub tokens_after : Reported → List Token
 tokens_after (Unended lines s) = tokens_of s.cells
 tokens_after (Ends lines ending cells) = []
 tokens_after (Sticks lines kind) = []
@@ -152,7 +152,7 @@ of_the_child_still = tokens_after (run_of 20 (of_a_child (Stop ∷ Return 0 ∷ 
 -- each of these runs comes out so
 pub record TokensRun : Type 0 where
   pub living : void_and_living
-  pub full : crowded
+  pub full : full_store_case
   pub own : of_its_own
   pub elsewhere : held_elsewhere
   pub ancestor : by_an_ancestor
@@ -166,7 +166,7 @@ abbrev pub handing_cell : Phase → Option ℕ → Cell
 handing_cell phase token = record (a_cell 9 handing (Elsewhere Root)) { request = Some (record { order = 0; priority = pos 0; phase = phase; status = pos 0; timer = None; token = token }) }
 
 abbrev pub hand_case : List Cell → List Stuck → Case
-hand_case cells kinds = record (fails (Hand 0) kinds) { home = inside handing; cells = cells }
+hand_case cells kinds = record (fails (Hand 0) kinds) { receiver = inside handing; cells = cells }
 
 -- a free register, an object of such a class, enlisted, and no request that is made
 abbrev pub hand_cases : List Case
@@ -179,8 +179,8 @@ hand_cases =
     ∷ hand_case (handing_cell Waits None ∷ []) (RequestOverlap ∷ [])
     ∷ hand_case (handing_cell Cancelling None ∷ []) (RequestOverlap ∷ [])
     ∷ hand_case (handing_cell Aborted None ∷ []) (RequestOverlap ∷ [])
-    ∷ record (hand_case (handing_cell Idle None ∷ []) (WrongKind ∷ [])) { home = inside waiter }
-    ∷ record (hand_case (handing_cell Idle None ∷ []) (WrongKind ∷ [])) { home = inside keeper }
+    ∷ record (hand_case (handing_cell Idle None ∷ []) (WrongKind ∷ [])) { receiver = inside waiter }
+    ∷ record (hand_case (handing_cell Idle None ∷ []) (WrongKind ∷ [])) { receiver = inside keeper }
     ∷ elsewhere_cases (Hand 0) (WrongKind ∷ AddedWrong ∷ RequestOverlap ∷ [])
 
 -- what hands out tokens issues nothing

@@ -2,8 +2,8 @@
 use Rattle.std.specs.Prelude.{ℕ, ℤ, pos, negsuc, List, [], ◌∷◌, ◌≡◌, Some, None}
 use Rattle.aom_semantics.specs.Requests.{pending}
 use Rattle.aom_semantics.specs.Places.{Aborted, Active, Cancelling, Cell, Elsewhere, Idle, Issued, Object, Phase, Root, Timer}
-use Rattle.aom_semantics.specs.State.{IsStuck, Seat, State, Stray}
-use Rattle.aom_semantics.specs.World.{Completes, Cuts, Environment, Passes, Picks, Strays, Turning, Waits, nothing_heard, ready_count, refusing, signal_count, turn, turning}
+use Rattle.aom_semantics.specs.State.{IsStuck, OwnedObject, State, Stray}
+use Rattle.aom_semantics.specs.World.{Completes, Cuts, Environment, Passes, Picks, Strays, Turning, Waits, nothing_observed, ready_count, refusing, signal_count, turn, turning}
 use Rattle.aom_semantics.specs.Cases.Building.{a_cell, state_of, waiter}
 use Rattle.aom_semantics.specs.Cases.Moves.{an_image}
 
@@ -20,8 +20,8 @@ timed name order timer =
 abbrev pub named_so : ℕ → Object
 named_so name = record { name = name; thing = waiter }
 
-abbrev pub seat_of : ℕ → Seat
-seat_of name = record { object = named_so name; place = Elsewhere Root }
+abbrev pub owned_object_of : ℕ → OwnedObject
+owned_object_of name = record { object = named_so name; place = Elsewhere Root }
 
 -- at time 0, with nothing at hand and no dispatch so far
 abbrev pub between : List Cell → State
@@ -41,7 +41,7 @@ comes_to comes cells = record { cells = cells; limit = 9; comes = comes }
 
 abbrev pub AllCome : List Turn_case → Type 0
 AllCome [] = Unit {0}
-AllCome (c ∷ cs) = (turning (within c.limit) nothing_heard (between c.cells) ≡ c.comes) × AllCome cs
+AllCome (c ∷ cs) = (turning (within c.limit) nothing_observed (between c.cells) ≡ c.comes) × AllCome cs
 
 -- a completed request signals, unless its signal is taken
 abbrev pub signal_cases : List Turn_case
@@ -51,7 +51,7 @@ signal_cases =
     ∷ comes_to Waits (listed 1 0 (pos 0) Idle (negsuc 2) ∷ [])
     ∷ comes_to Waits (listed 1 0 (pos 0) Active pending ∷ [])
     ∷ comes_to Waits (listed 1 0 (pos 0) Issued pending ∷ [])
-    ∷ comes_to (Picks (seat_of 1)) (listed 1 0 (pos 0) Active (pos 0) ∷ [])
+    ∷ comes_to (Picks (owned_object_of 1)) (listed 1 0 (pos 0) Active (pos 0) ∷ [])
     ∷ comes_to Strays (listed 1 0 (pos 0) Issued (pos 0) ∷ [])
     ∷ comes_to Strays (listed 1 0 (pos 0) Cancelling (pos 0) ∷ [])
     ∷ []
@@ -83,11 +83,11 @@ count_cases =
 -- of the ready objects the one of the highest priority is picked, and among equals the one enlisted first
 abbrev pub pick_cases : List Turn_case
 pick_cases =
-    comes_to (Picks (seat_of 2)) (listed 1 0 (pos 0) Active (pos 0) ∷ listed 2 1 (pos 5) Active (pos 0) ∷ [])
-    ∷ comes_to (Picks (seat_of 1)) (listed 1 0 (pos 0) Active (pos 0) ∷ listed 2 1 (negsuc 0) Active (pos 0) ∷ [])
-    ∷ comes_to (Picks (seat_of 1)) (listed 1 0 (pos 0) Active (pos 0) ∷ listed 2 1 (pos 0) Active (pos 0) ∷ [])
-    ∷ comes_to (Picks (seat_of 1)) (listed 2 1 (pos 0) Active (pos 0) ∷ listed 1 0 (pos 0) Active (pos 0) ∷ [])
-    ∷ comes_to (Picks (seat_of 1)) (listed 1 0 (pos 0) Active (pos 0) ∷ listed 2 1 (pos 5) Active pending ∷ [])
+    comes_to (Picks (owned_object_of 2)) (listed 1 0 (pos 0) Active (pos 0) ∷ listed 2 1 (pos 5) Active (pos 0) ∷ [])
+    ∷ comes_to (Picks (owned_object_of 1)) (listed 1 0 (pos 0) Active (pos 0) ∷ listed 2 1 (negsuc 0) Active (pos 0) ∷ [])
+    ∷ comes_to (Picks (owned_object_of 1)) (listed 1 0 (pos 0) Active (pos 0) ∷ listed 2 1 (pos 0) Active (pos 0) ∷ [])
+    ∷ comes_to (Picks (owned_object_of 1)) (listed 2 1 (pos 0) Active (pos 0) ∷ listed 1 0 (pos 0) Active (pos 0) ∷ [])
+    ∷ comes_to (Picks (owned_object_of 1)) (listed 1 0 (pos 0) Active (pos 0) ∷ listed 2 1 (pos 5) Active pending ∷ [])
     ∷ []
 
 -- timers that are due come before signals, the earliest first, and among equals the one begun first; the limit comes before all
@@ -96,7 +96,7 @@ timer_cases =
     comes_to (Passes 5) (timed 1 0 (record { due = 5; order = 0 }) ∷ [])
     ∷ comes_to (Passes 4) (timed 1 0 (record { due = 5; order = 0 }) ∷ timed 2 1 (record { due = 4; order = 1 }) ∷ [])
     ∷ comes_to (Completes (named_so 1)) (timed 1 0 (record { due = 0; order = 0 }) ∷ listed 2 1 (pos 0) Active (pos 0) ∷ [])
-    ∷ comes_to (Picks (seat_of 2)) (timed 1 0 (record { due = 1; order = 0 }) ∷ listed 2 1 (pos 0) Active (pos 0) ∷ [])
+    ∷ comes_to (Picks (owned_object_of 2)) (timed 1 0 (record { due = 1; order = 0 }) ∷ listed 2 1 (pos 0) Active (pos 0) ∷ [])
     ∷ comes_to (Completes (named_so 2)) (timed 1 0 (record { due = 0; order = 1 }) ∷ timed 2 1 (record { due = 0; order = 0 }) ∷ [])
     ∷ record (comes_to Cuts (timed 1 0 (record { due = 0; order = 0 }) ∷ listed 2 1 (pos 0) Active (pos 0) ∷ [])) { limit = 0 }
     ∷ []
@@ -107,4 +107,4 @@ pub record TurnNeedsFail : Type 0 where
   pub counts : AllCount count_cases
   pub picks : AllCome pick_cases
   pub timers : AllCome timer_cases
-  pub stray : turn an_image (within 9) nothing_heard (between (listed 1 0 (pos 0) Issued (pos 0) ∷ [])) ≡ IsStuck Stray
+  pub stray : turn an_image (within 9) nothing_observed (between (listed 1 0 (pos 0) Issued (pos 0) ∷ [])) ≡ IsStuck Stray

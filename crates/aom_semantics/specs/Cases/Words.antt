@@ -48,23 +48,23 @@ word_cases =
 -- a word of the object: a static method and main have none, and each class so many
 abbrev pub cell_word_cases : List Case
 cell_word_cases =
-    record (fails (Load 0 0) []) { home = inside pair }
+    record (fails (Load 0 0) []) { receiver = inside pair }
     ∷ fails (Load 0 0) (WrongKind ∷ [])
-    ∷ record (fails (Load 0 0) (WrongKind ∷ [])) { home = AtRoot }
-    ∷ record (fails (Load 0 0) (WrongKind ∷ [])) { home = inside leaf }
-    ∷ record (fails (Load 0 1) (WrongKind ∷ [])) { home = inside pair }
-    ∷ record (fails (Load 0 0) (Orphan ∷ [])) { home = inside pair; cells = a_cell 1 leaf (mine 0) ∷ [] }
-    ∷ record (fails (Load 0 1) (WrongKind ∷ Orphan ∷ [])) { home = inside pair; cells = a_cell 1 leaf (mine 0) ∷ [] }
+    ∷ record (fails (Load 0 0) (WrongKind ∷ [])) { receiver = AtRoot }
+    ∷ record (fails (Load 0 0) (WrongKind ∷ [])) { receiver = inside leaf }
+    ∷ record (fails (Load 0 1) (WrongKind ∷ [])) { receiver = inside pair }
+    ∷ record (fails (Load 0 0) (Orphan ∷ [])) { receiver = inside pair; cells = a_cell 1 leaf (mine 0) ∷ [] }
+    ∷ record (fails (Load 0 1) (WrongKind ∷ Orphan ∷ [])) { receiver = inside pair; cells = a_cell 1 leaf (mine 0) ∷ [] }
     -- a method of an ancestor reaches the words of its own class alone
-    ∷ record (fails (Load 0 1) []) { home = inside child }
-    ∷ record (fails (Load 0 0) []) { home = inside child; class = Some 1 }
-    ∷ record (fails (Load 0 1) (WrongKind ∷ [])) { home = inside child; class = Some 1 }
-    ∷ record (fails (Store 1 0) (WrongKind ∷ [])) { home = inside child; class = Some 1; words = seven ∷ [] }
-    ∷ record (fails (Store 0 0) []) { home = inside pair; words = seven ∷ [] }
+    ∷ record (fails (Load 0 1) []) { receiver = inside child }
+    ∷ record (fails (Load 0 0) []) { receiver = inside child; class = Some 1 }
+    ∷ record (fails (Load 0 1) (WrongKind ∷ [])) { receiver = inside child; class = Some 1 }
+    ∷ record (fails (Store 1 0) (WrongKind ∷ [])) { receiver = inside child; class = Some 1; words = seven ∷ [] }
+    ∷ record (fails (Store 0 0) []) { receiver = inside pair; words = seven ∷ [] }
     ∷ record (fails (Store 0 0) (WrongKind ∷ [])) { words = seven ∷ [] }
-    ∷ record (fails (Store 0 0) (WrongKind ∷ [])) { home = AtRoot; words = seven ∷ [] }
-    ∷ record (fails (Store 1 0) (WrongKind ∷ [])) { home = inside pair; words = seven ∷ [] }
-    ∷ record (fails (Store 0 0) (WrongKind ∷ [])) { home = inside pair }
+    ∷ record (fails (Store 0 0) (WrongKind ∷ [])) { receiver = AtRoot; words = seven ∷ [] }
+    ∷ record (fails (Store 1 0) (WrongKind ∷ [])) { receiver = inside pair; words = seven ∷ [] }
+    ∷ record (fails (Store 0 0) (WrongKind ∷ [])) { receiver = inside pair }
     ∷ []
 
 -- each need of an instruction on words can fail

@@ -1,7 +1,7 @@
 -- An image within its limits is refused for want of memory alone.
 use Rattle.std.proofs.Common.{refl}
 use Rattle.aom_image.specs.WellFormed.{WellFormed}
-use Rattle.aom_classes.specs.Linked.{IsLinked}
+use Rattle.aom_link_conditions.specs.Linked.{IsLinked}
 use Rattle.aom_budget.proofs.Budgeting.{wants_memory}
 use Rattle.aom_budget.proofs.accepted.accept.Goals as goal
 

@@ -1,8 +1,8 @@
 -- One class more, and all of them.
 use Rattle.std.proofs.Common.{◌≡◌, ◌∙◌, ap, length, rules}
 use Rattle.aom_image.specs.declared.method.Role.TheVariants.{Cancel}
-use Rattle.aom_classes.specs.Roles.{role_of}
-use Rattle.aom_typings.specs.Calls.{listed}
+use Rattle.aom_link_conditions.specs.Roles.{role_of}
+use Rattle.aom_static_bounds.specs.Calls.{listed}
 use Rattle.aom_budget.specs.Greatest.{most_at}
 use Rattle.aom_budget.proofs.Lined.{absent_cancels}
 use Rattle.aom_budget.proofs.Raised.{greatest_made, raised_next}

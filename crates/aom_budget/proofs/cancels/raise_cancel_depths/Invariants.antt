@@ -1,7 +1,7 @@
 -- So many classes have raised the table.
 use Rattle.aom_image.specs.declared.method.Role.TheVariants.{Cancel}
-use Rattle.aom_classes.specs.Roles.{role_of}
-use Rattle.aom_typings.specs.Calls.{listed}
+use Rattle.aom_link_conditions.specs.Roles.{role_of}
+use Rattle.aom_static_bounds.specs.Calls.{listed}
 use Rattle.aom_budget.specs.Greatest.{most_at}
 use Rattle.aom_budget.proofs.Raised.{IsRaised}
 use Rattle.aom_budget.proofs.cancels.raise_cancel_depths.Given as goal

@@ -5,8 +5,8 @@ use Rattle.std.proofs.lemmas.Option.{slice_get_past, slice_get_read}
 use Rattle.aom_image.specs.Views.{class_at}
 use Rattle.aom_image.specs.declared.method.Thing.TheVariants.{Object}
 use Rattle.aom_roles.specs.Classes.{kind_in}
-use Rattle.aom_typings.specs.Prices.{perhaps_sessions}
-use Rattle.aom_typings.specs.Sweeping.{going}
+use Rattle.aom_static_bounds.specs.Prices.{perhaps_sessions}
+use Rattle.aom_static_bounds.specs.Sweeping.{going}
 use Rattle.aom_budget.specs.Pricing.{kept, price_by}
 use Rattle.aom_budget.proofs.destructions.class_sessions.Goals as goal
 

@@ -1,9 +1,9 @@
 -- Each of the sessions costs as one does.
 use Rattle.std.proofs.Common.{ℕ, ◌≡◌, ◌*◌, ◌∙◌, ap, rules, sym}
 use Rattle.aom_image.specs.declared.method.Thing.TheVariants.{Object}
-use Rattle.aom_typings.specs.Prices.{kind_sessions}
-use Rattle.aom_typings.specs.Sweeping.{going}
-use Rattle.aom_budget.proofs.TypingsLemmas.{alike_times}
+use Rattle.aom_static_bounds.specs.Prices.{kind_sessions}
+use Rattle.aom_static_bounds.specs.Sweeping.{going}
+use Rattle.aom_budget.proofs.StaticBoundsLemmas.{alike_times}
 use Rattle.aom_budget.specs.Pricing.{kept, price_by}
 use Rattle.aom_budget.proofs.destructions.kind_sessions.Goals as goal
 

@@ -2,7 +2,7 @@
 use Rattle.std.proofs.Common.{ℕ, ◌≡◌, arith, length, rules}
 use Rattle.std.specs.Prelude.{max}
 use Rattle.aom_image.specs.declared.method.Thing.TheVariants.{Object}
-use Rattle.aom_typings.specs.Sweeping.{whole_going}
+use Rattle.aom_static_bounds.specs.Sweeping.{whole_going}
 use Rattle.aom_budget.specs.Pricing.{price_by}
 use Rattle.aom_budget.proofs.Destroyed.{most_all, most_one}
 use Rattle.aom_budget.proofs.destructions.most_going.Goals as goal

@@ -3,8 +3,8 @@ use Rattle.std.proofs.Common.{◌≡◌, ◌≤◌}
 use Rattle.std.specs.Prelude.{max}
 use Rattle.aom_image.specs.declared.method.Thing.TheVariants.{Object}
 use Rattle.aom_roles.specs.Families.{descends}
-use Rattle.aom_typings.specs.Most.{most_of}
-use Rattle.aom_typings.specs.Sweeping.{whole_going}
+use Rattle.aom_static_bounds.specs.Most.{most_of}
+use Rattle.aom_static_bounds.specs.Sweeping.{whole_going}
 use Rattle.aom_budget.specs.Pricing.{kept, price_by}
 use Rattle.aom_budget.proofs.destructions.most_going.Given as goal
 

@@ -1,6 +1,6 @@
 -- So many classes have raised the table.
 use Rattle.aom_image.specs.declared.method.Thing.TheVariants.{Object}
-use Rattle.aom_typings.specs.Sweeping.{whole_going}
+use Rattle.aom_static_bounds.specs.Sweeping.{whole_going}
 use Rattle.aom_budget.specs.Pricing.{kept, price_by}
 use Rattle.aom_budget.proofs.Raised.{IsRaised}
 use Rattle.aom_budget.proofs.destructions.raise_destroyed.Given as goal

@@ -2,7 +2,7 @@
 use Rattle.std.proofs.Common.{Some, ◌≡◌, ◌++◌, ◌∙◌, ap, ap₂, sym}
 use Rattle.std.specs.Prelude.{max}
 use Rattle.aom_roles.specs.Classes.{sessions_at}
-use Rattle.aom_typings.specs.Calls.{lines_of}
+use Rattle.aom_static_bounds.specs.Calls.{lines_of}
 use Rattle.aom_budget.specs.Greatest.{most_at}
 use Rattle.aom_budget.proofs.Greatest.{most_append}
 use Rattle.aom_budget.proofs.lines.going_depth.Goals as goal

@@ -1,7 +1,7 @@
 -- What the classes so far cost, and those above.
 use Rattle.std.proofs.Common.{Some, ◌+◌, ◌≡◌, ◌≤◌}
 use Rattle.aom_budget.specs.Pricing.{kept, price_by}
-use Rattle.aom_typings.specs.Most.{line_from}
+use Rattle.aom_static_bounds.specs.Most.{line_from}
 use Rattle.aom_budget.proofs.Climbing.{generations}
 use Rattle.aom_budget.proofs.lines.line_cost.Given as goal
 

@@ -2,7 +2,7 @@
 use Rattle.std.proofs.Common.{◌≡◌, ◌∙◌, ap, rules}
 use Rattle.std.specs.Prelude.{max}
 use Rattle.aom_roles.specs.Families.{parent_of}
-use Rattle.aom_typings.specs.Calls.{listed}
+use Rattle.aom_static_bounds.specs.Calls.{listed}
 use Rattle.aom_budget.specs.Greatest.{most_at}
 use Rattle.aom_budget.proofs.Lined.{most_goes}
 use Rattle.aom_budget.proofs.lines.line_depth.Goals as goal

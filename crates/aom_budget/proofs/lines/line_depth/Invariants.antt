@@ -1,7 +1,7 @@
 -- The greatest depth of the classes so far, and of those above.
 use Rattle.std.proofs.Common.{Some, ◌≡◌}
 use Rattle.std.specs.Prelude.{max}
-use Rattle.aom_typings.specs.Calls.{lines_of}
+use Rattle.aom_static_bounds.specs.Calls.{lines_of}
 use Rattle.aom_budget.specs.Greatest.{most_at}
 use Rattle.aom_budget.proofs.Climbing.{generations}
 use Rattle.aom_budget.proofs.lines.line_depth.Given as goal

@@ -2,7 +2,7 @@
 use Rattle.std.proofs.Common.{◌≡◌, ◌∙◌, ap}
 use Rattle.aom_image.specs.Image.{Image}
 use Rattle.aom_image.specs.Views.{method_at}
-use Rattle.aom_budget.proofs.ClassesLemmas.{read, within}
+use Rattle.aom_budget.proofs.LinkConditionsLemmas.{read, within}
 use Rattle.aom_budget.proofs.pass.place_count.Goals as goal
 
 pub at-requires : goal.at-requires

@@ -4,7 +4,7 @@ use Rattle.aom_image.specs.Image.{Image}
 use Rattle.aom_image.specs.Views.{method_at}
 use Rattle.aom_image.specs.WellFormed.{WellFormed}
 use Rattle.aom_image.specs.declared.method.Method.{Method}
-use Rattle.aom_budget.proofs.TypingsLemmas.{within_method}
+use Rattle.aom_budget.proofs.StaticBoundsLemmas.{within_method}
 use Rattle.aom_budget.specs.Costing.{AreCosts}
 use Rattle.aom_budget.specs.Pricing.{IsMethodPriced}
 use Rattle.aom_budget.proofs.Priced.{are_priced, priced_first, priced_more}

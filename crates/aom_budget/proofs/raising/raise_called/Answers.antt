@@ -11,7 +11,7 @@ pub loop-here-preserved : goal.loop-here-preserved
 loop-here-preserved c = record {
   size = c.raise-in-Some.ensures.size ∙ c.loop-here.invariant.size;
   each = λ k lt. lead_goes c.args.image.now c.loop-here.left k _ _ _ _ _ _ _ _ c.in-Some.is c.number-in-Some.ensures.value c.if-left-eq0.false
-      c.over_of-here-in-Some.ensures (c.raise-in-Some.ensures.each k (omega (arith, lt, c.loop-here.invariant.size))) (c.loop-here.invariant.each k lt);
+      c.overridden_method-here-in-Some.ensures (c.raise-in-Some.ensures.each k (omega (arith, lt, c.loop-here.invariant.size))) (c.loop-here.invariant.each k lt);
 }
 
 pub returns-clause-each : goal.returns-clause-each

@@ -1,7 +1,7 @@
 -- What is raised so far, and what is left to raise.
 use Rattle.std.proofs.Common.{cond, length, ℕ, ◌<◌, ◌≡◌}
 use Rattle.std.specs.Prelude.{max}
-use Rattle.aom_classes.specs.Overriding.{leads_in}
+use Rattle.aom_link_conditions.specs.Overriding.{leads_in}
 use Rattle.aom_roles.specs.Tables.{at}
 use Rattle.aom_budget.specs.Greatest.{is_body}
 use Rattle.aom_budget.proofs.raising.raise_called.Given as goal

@@ -1,5 +1,5 @@
 use Rattle.std.proofs.Common.{◌≡◌, ◌++◌, take, drop, length, subst, ap, arith, ◌∙◌}
-use Rattle.aom_clients.specs.Rings.{AreOwn}
+use Rattle.aom_clients.specs.CircularLists.{AreOwn}
 use Rattle.aom_clients.proofs.RingSteps.{own-written}
 use Rattle.aom_clients.proofs.lists.own_numbers.Goals as goal
 

@@ -8,9 +8,9 @@ use Rattle.aom_command_line.proofs.words.natives_of.Goals as goal
 pub returns-in_default-clause-named : goal.returns-in_default-clause-named
 returns-in_default-clause-named c = none_named _ c.new.result.items (no_words (found_of c.args.own.now) (codes "NATIVE") c.in_default.ensures) c.new.ensures.items
 
-pub returns-then-words-gt-MOST_NATIVES-clause-declines : goal.returns-then-words-gt-MOST_NATIVES-clause-declines
-returns-then-words-gt-MOST_NATIVES-clause-declines c = subst NamesNoKinds (found_words (found_of c.args.own.now)
-    (codes "NATIVE") c.in-Some.words.now c.in-Some.ensures) (too_many c.in-Some.words.now c.if-words-gt-MOST_NATIVES.true)
+pub returns-then-words-gt-MAX_NATIVES-clause-declines : goal.returns-then-words-gt-MAX_NATIVES-clause-declines
+returns-then-words-gt-MAX_NATIVES-clause-declines c = subst NamesNoKinds (found_words (found_of c.args.own.now)
+    (codes "NATIVE") c.in-Some.words.now c.in-Some.ensures) (too_many c.in-Some.words.now c.if-words-gt-MAX_NATIVES.true)
 
 pub returns-clause-named : goal.returns-clause-named
 returns-clause-named c = subst (λ w. IfOk c.kinds_of.result (λ kinds. NamesKinds w kinds.items))

@@ -14,7 +14,7 @@ returns-in_err-linked-clause-err c =
 pub returns-in_err-linked-clause-complete : goal.returns-in_err-linked-clause-complete
 returns-in_err-linked-clause-complete c =
     let e = err_from_is_err_and c.from_residual.result c.from_residual.ensures.1 in
-    λ p spelled acceptable. rw (e.1, e.2) (c.in_err-linked.ensures.err.complete p spelled acceptable)
+    λ p serialized acceptable. rw (e.1, e.2) (c.in_err-linked.ensures.err.complete p serialized acceptable)
 
 pub returns-in_err-accepted-clause-err : goal.returns-in_err-accepted-clause-err
 returns-in_err-accepted-clause-err c =
@@ -37,6 +37,6 @@ returns-in_err-checked-clause-complete c =
 pub returns-in_err-accepted-clause-complete : goal.returns-in_err-accepted-clause-complete
 returns-in_err-accepted-clause-complete c =
     let e = err_from_is_err_and c.from_residual-in_err-accepted.result c.from_residual-in_err-accepted.ensures.1 in
-    λ q spelled acceptable.
-    let a : IsAcceptable c.in_ok-checked.checked = subst IsAcceptable (sym (c.in_ok-checked.ensures.ok ∙ c.in_ok-linked.ensures.only q spelled)) acceptable in
+    λ q serialized acceptable.
+    let a : IsAcceptable c.in_ok-checked.checked = subst IsAcceptable (sym (c.in_ok-checked.ensures.ok ∙ c.in_ok-linked.ensures.only q serialized)) acceptable in
     rw (e.1, e.2) (ap of_budget (c.in_err-accepted.ensures.complete a.budgets a.depths a.heights))

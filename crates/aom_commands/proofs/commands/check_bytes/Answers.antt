@@ -2,4 +2,4 @@
 use Rattle.aom_commands.proofs.commands.check_bytes.Goals as goal
 
 pub returns : goal.returns
-returns g c = c.told.ensures
+returns g c = c.reported.ensures

@@ -18,4 +18,4 @@ pub returns-in-Error : goal.returns-in-Error
 returns-in-Error c = rw (c.in_ok-outcome.was, c.in-Error.is) (λ errors silent. (refl, silent))
 
 pub returns-in-WriteFault : goal.returns-in-WriteFault
-returns-in-WriteFault c = rw (c.in_ok-outcome.was, c.in-WriteFault.is) (λ errors status told. told)
+returns-in-WriteFault c = rw (c.in_ok-outcome.was, c.in-WriteFault.is) (λ errors status reported. reported)

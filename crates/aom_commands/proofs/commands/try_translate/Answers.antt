@@ -1,12 +1,12 @@
 -- A file that is translated to nothing has a fault, and so has want of memory.
 use Rattle.std.proofs.Common.{refl}
 use Rattle.aom_commands.proofs.Translated.{translated, untranslated}
-use Rattle.aom_commands.proofs.Untelling.{untold_weaker}
+use Rattle.aom_commands.proofs.Untelling.{unreported_weaker}
 use Rattle.aom_commands.proofs.commands.try_translate.Goals as goal
 
 pub returns-in-Ok : goal.returns-in-Ok
 returns-in-Ok g c =
-    untold_weaker _ _ _ (λ errors status sends. translated _ _ _ _ errors status (rw c.deref.ensures.value c.in-Ok.ensures.ok) sends) c.try_send.ensures
+    unreported_weaker _ _ _ (λ errors status sends. translated _ _ _ _ errors status (rw c.deref.ensures.value c.in-Ok.ensures.ok) sends) c.try_send.ensures
 
 pub returns-in-Err : goal.returns-in-Err
-returns-in-Err g c = λ errors status told. untranslated c.args.to c.args.file.now c.in-Err.fault _ errors status c.in-Err.ensures.err refl told
+returns-in-Err g c = λ errors status reported. untranslated c.args.to c.args.file.now c.in-Err.fault _ errors status c.in-Err.ensures.err refl reported

@@ -2,7 +2,7 @@
 use Rattle.std.proofs.Common.{◌∙◌, ap}
 use Rattle.std.proofs.lemmas.Result.{IfOk-weaker}
 use Rattle.aom_image.specs.Image.{Image}
-use Rattle.aom_figures.specs.Dot.{dot_text}
+use Rattle.aom_cost_report.specs.Dot.{dot_text}
 use Rattle.aom_commands.proofs.drawing.draw_checked.Goals as goal
 
 pub returns : goal.returns

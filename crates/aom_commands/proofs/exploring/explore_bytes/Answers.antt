@@ -1,6 +1,6 @@
 -- The accepted image is the one that the bytes spell.
 use Rattle.std.proofs.Common.{length}
-use Rattle.aom_commands.proofs.Telling.{explores}
+use Rattle.aom_commands.proofs.Reporting.{explores}
 use Rattle.aom_commands.proofs.Untelling.{answered}
 use Rattle.aom_commands.proofs.exploring.explore_bytes.Goals as goal
 

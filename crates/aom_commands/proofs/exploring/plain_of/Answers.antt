@@ -1,7 +1,7 @@
 -- The run is that of the script as it is, and what is kept of it is its transcript.
 use Rattle.std.proofs.Common.{◌∙◌, [], List, ℕ, Bool, ap, refl}
 use Rattle.aom_transcript.specs.Sinks.{after}
-use Rattle.aom_injection.specs.Planned.{times_in}
+use Rattle.aom_fault_injection.specs.Planned.{times_in}
 use Rattle.aom_commands.specs.Explored.{kept_text}
 use Rattle.aom_commands.proofs.Tries.{kept_so}
 use Rattle.aom_commands.proofs.exploring.plain_of.Goals as goal

@@ -6,7 +6,7 @@ use Rattle.aom_commands.proofs.exploring.try_all.Goals.{then-loop-place-test+els
 use Rattle.aom_commands.proofs.exploring.try_all.Goals as goal
 
 pub loop-place-init : goal.loop-place-init
-loop-place-init g c = record { far = start _ _ _ _ _ c.new-tally.result _ c.new-tally.ensures refl; within = omega arith }
+loop-place-init g c = record { far = start _ _ _ _ _ c.new-outcome_counts.result _ c.new-outcome_counts.ensures refl; within = omega arith }
 
 pub count-requires : goal.count-requires
 count-requires g c =
@@ -24,7 +24,7 @@ loop-place-preserved g c =
     let sent : Sent = record { before = out; now = g.W.Sink.out c.try_one.new.out; failed = g.W.Sink.failed c.try_one.new.out } in
     record {
       far = one_more trial.accepted.now trial.script.now trial.limit
-          (length trial.kinds.now) c.args.injections.now c.loop-place.place c.loop-place.tally c.count.new.self mid sent _ _ c.in_ok-ending.ending tried.0
+          (length trial.kinds.now) c.args.injections.now c.loop-place.place c.loop-place.outcome_counts c.count.new.self mid sent _ _ c.in_ok-ending.ending tried.0
           (omega (arith, c.loop-place-test.true)) refl i.far (sym c.has_failed.ensures ∙ search rules) refl tried.1 tried.2 c.count.ensures;
       within = omega (arith, c.loop-place-test.true);
     }
@@ -34,5 +34,5 @@ returns-clause-ok g c =
     let i = c.loop-place.invariant in
     elim c.loop-place-test.branch [
       | then-loop-place-test+else-not-has_failed w ↦ all_tried _ _ _ _ _ _ _ _ i.far (λ lives. let failed = sym w.has_failed.ensures in absurd cc)
-      | else-loop-place-test w ↦ all_tried _ _ _ _ _ c.loop-place.place c.loop-place.tally _ i.far (λ lives. omega (arith, w.loop-place-test.false))
+      | else-loop-place-test w ↦ all_tried _ _ _ _ _ c.loop-place.place c.loop-place.outcome_counts _ i.far (λ lives. omega (arith, w.loop-place-test.false))
     ]

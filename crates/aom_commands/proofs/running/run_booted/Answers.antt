@@ -1,7 +1,7 @@
 -- What the machine sent is what its outcome shows.
 use Rattle.std.proofs.Common.{arith}
 use Rattle.aom_transcript.specs.Naming.{named_by}
-use Rattle.aom_commands.proofs.Telling.{shown_by}
+use Rattle.aom_commands.proofs.Reporting.{shown_by}
 use Rattle.aom_commands.proofs.running.run_booted.Goals as goal
 
 pub run_named-requires-clause-room : goal.run_named-requires-clause-room

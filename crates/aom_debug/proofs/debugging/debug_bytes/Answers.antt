@@ -6,4 +6,4 @@ pub returns-in-Ok : goal.returns-in-Ok
 returns-in-Ok g c = (rw c.none.ensures at c.in-Ok.ensures) _ refl
 
 pub returns-in-Err : goal.returns-in-Err
-returns-in-Err g c = (rw c.none.ensures at c.in-Err.ensures) _ c.tell.result c.tell.ensures
+returns-in-Err g c = (rw c.none.ensures at c.in-Err.ensures) _ c.report.result c.report.ensures

@@ -7,5 +7,5 @@ pub returns-in-Ok : goal.returns-in-Ok
 returns-in-Ok g c = c.debug_text.ensures c.args.image.now c.in-Ok.ensures.ok.0
 
 pub returns-in-Err : goal.returns-in-Err
-returns-in-Err g c = λ errors status told. unaccepted c.args.names c.args.image.now c.args.script.now c.args.limit
-    (length c.args.boxes.items) c.args.reads _ _ errors status refl refl c.in-Err.refusal c.in-Err.ensures.err c.in-Err.ensures.complete told
+returns-in-Err g c = λ errors status reported. unaccepted c.args.names c.args.image.now c.args.script.now c.args.limit
+    (length c.args.boxes.items) c.args.reads _ _ errors status refl refl c.in-Err.refusal c.in-Err.ensures.err c.in-Err.ensures.complete reported

@@ -2,12 +2,12 @@
 use Rattle.std.proofs.lemmas.Result.{IfErr-weaker, IfOk-weaker}
 use Rattle.aom_debug.proofs.reaching.show_queue.Goals as goal
 
-pub tell_queue-requires-clause-lives : goal.tell_queue-requires-clause-lives
-tell_queue-requires-clause-lives g c = rw c.parts.ensures.parts c.requires
+pub report_queue-requires-clause-lives : goal.report_queue-requires-clause-lives
+report_queue-requires-clause-lives g c = rw c.parts.ensures.parts c.requires
 
 pub returns-clause-ok : goal.returns-clause-ok
-returns-clause-ok g c = IfOk-weaker c.tell_queue.result _ _ (λ done tells. tells c.args.machine.now.core.image) (rw c.parts.ensures.parts at c.tell_queue.ensures.ok)
+returns-clause-ok g c = IfOk-weaker c.report_queue.result _ _ (λ done reports. reports c.args.machine.now.core.image) (rw c.parts.ensures.parts at c.report_queue.ensures.ok)
 
 pub returns-clause-err : goal.returns-clause-err
 returns-clause-err g c =
-    IfErr-weaker c.tell_queue.result _ _ (λ fault part. part c.args.machine.now.core.image) (rw c.parts.ensures.parts at c.tell_queue.ensures.err)
+    IfErr-weaker c.report_queue.result _ _ (λ fault part. part c.args.machine.now.core.image) (rw c.parts.ensures.parts at c.report_queue.ensures.err)

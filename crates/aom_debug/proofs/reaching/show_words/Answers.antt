@@ -2,13 +2,13 @@
 use Rattle.std.proofs.lemmas.Result.{IfErr-weaker, IfOk-weaker}
 use Rattle.aom_debug.proofs.reaching.show_words.Goals as goal
 
-pub tell_words-requires : goal.tell_words-requires
-tell_words-requires g c = rw c.parts.ensures.parts c.requires
+pub report_words-requires : goal.report_words-requires
+report_words-requires g c = rw c.parts.ensures.parts c.requires
 
 pub returns-clause-ok : goal.returns-clause-ok
-returns-clause-ok g c = IfOk-weaker c.tell_words.result _ _
-    (λ done tells. tells c.args.machine.now.core.image) (rw (c.parts.ensures.parts, c.linked.ensures, c.accepted.ensures) at c.tell_words.ensures.ok)
+returns-clause-ok g c = IfOk-weaker c.report_words.result _ _
+    (λ done reports. reports c.args.machine.now.core.image) (rw (c.parts.ensures.parts, c.linked.ensures, c.accepted.ensures) at c.report_words.ensures.ok)
 
 pub returns-clause-err : goal.returns-clause-err
-returns-clause-err g c = IfErr-weaker c.tell_words.result _ _
-    (λ fault part. part c.args.machine.now.core.image) (rw (c.parts.ensures.parts, c.linked.ensures, c.accepted.ensures) at c.tell_words.ensures.err)
+returns-clause-err g c = IfErr-weaker c.report_words.result _ _
+    (λ fault part. part c.args.machine.now.core.image) (rw (c.parts.ensures.parts, c.linked.ensures, c.accepted.ensures) at c.report_words.ensures.err)

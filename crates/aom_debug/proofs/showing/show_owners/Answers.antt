@@ -1,10 +1,10 @@
 use Rattle.aom_debug.proofs.showing.show_owners.Goals as goal
 
-pub tell_owners-requires-clause-agrees : goal.tell_owners-requires-clause-agrees
-tell_owners-requires-clause-agrees g c = rw (c.parts.ensures.parts, c.accepted.ensures) c.parts.ensures.agrees
+pub report_owners-requires-clause-agrees : goal.report_owners-requires-clause-agrees
+report_owners-requires-clause-agrees g c = rw (c.parts.ensures.parts, c.accepted.ensures) c.parts.ensures.agrees
 
 pub returns-clause-ok : goal.returns-clause-ok
-returns-clause-ok g c = rw (c.parts.ensures.parts, c.accepted.ensures) at c.tell_owners.ensures.ok
+returns-clause-ok g c = rw (c.parts.ensures.parts, c.accepted.ensures) at c.report_owners.ensures.ok
 
 pub returns-clause-err : goal.returns-clause-err
-returns-clause-err g c = rw (c.parts.ensures.parts, c.accepted.ensures) at c.tell_owners.ensures.err
+returns-clause-err g c = rw (c.parts.ensures.parts, c.accepted.ensures) at c.report_owners.ensures.err

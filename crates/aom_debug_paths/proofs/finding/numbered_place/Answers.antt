@@ -2,7 +2,7 @@
 use Rattle.std.proofs.Common.{◌∙◌, ◌≡◌, add-one, ap, arith, false, suc, sym, true}
 use Rattle.aom_debug_paths.proofs.DebugViewsLemmas.{counted_next}
 use Rattle.aom_debug_paths.specs.Paths.{is_such, length_of, numbered}
-use Rattle.aom_debug_paths.proofs.Numbering.{as_many, numbered_more, numbered_told}
+use Rattle.aom_debug_paths.proofs.Numbering.{as_many, numbered_more, numbered_reported}
 use Rattle.aom_debug_paths.proofs.finding.numbered_place.Goals as goal
 
 pub returns-then-is_meant : goal.returns-then-is_meant
@@ -12,9 +12,9 @@ returns-then-is_meant c = λ p s st.
     let less = c.loop-place-test.true in
     let count = c.places-place-end.ensures in
     let many = as_many c.args.series p c.args.parts.now s st in
-    let told = numbered_told f c.args.number n c.count_at-here.result c.loop-place.others true (c.count_at-here.ensures.value p s st)
+    let reported = numbered_reported f c.args.number n c.count_at-here.result c.loop-place.others true (c.count_at-here.ensures.value p s st)
     (c.loop-place.invariant.count p s st) (c.loop-place.invariant.none p s st) (sym c.is_meant.ensures ∙ c.if-is_meant.true) in
-    sym (numbered_more f c.args.number (suc n) (length_of c.args.series s) n (omega (arith, less, count, many)) told)
+    sym (numbered_more f c.args.number (suc n) (length_of c.args.series s) n (omega (arith, less, count, many)) reported)
 
 pub loop-place-preserved : goal.loop-place-preserved
 loop-place-preserved c =
@@ -26,7 +26,7 @@ loop-place-preserved c =
       count = λ p s st. counted_next (is_such c.args.series s) n c.loop-place.others c.count_at-here.result
           (c.loop-place.invariant.count p s st) (c.count_at-here.ensures.value p s st);
       none = λ p s st. rw add-one
-          (numbered_told (is_such c.args.series s) c.args.number n c.count_at-here.result c.loop-place.others false (c.count_at-here.ensures.value p s st)
+          (numbered_reported (is_such c.args.series s) c.args.number n c.count_at-here.result c.loop-place.others false (c.count_at-here.ensures.value p s st)
           (c.loop-place.invariant.count p s st) (c.loop-place.invariant.none p s st) (sym c.is_meant.ensures ∙ c.if-is_meant.false));
     }
 

@@ -15,10 +15,10 @@ pub loop-branch-preserved : goal.loop-branch-preserved
 loop-branch-preserved c =
     let w = c.args.path.now in
     record {
-      alive = c.onward-holding.ensures.alive;
-      held = λ s st. held_same s _ _ c.onward-holding.result (one_more s (held_in s.cells (outer_place s w.outer)) w.branches c.branches-branch-items.result.now
+      alive = c.follow_branch-holding.ensures.alive;
+      held = λ s st. held_same s _ _ c.follow_branch-holding.result (one_more s (held_in s.cells (outer_place s w.outer)) w.branches c.branches-branch-items.result.now
           c.branches-branch-items.ensures c.loop-branch.branch-index c.branch-item.result c.loop-branch-test.true c.branch-item.is)
-          (c.onward-holding.ensures.held s _ st (c.loop-branch.invariant.held s st));
+          (c.follow_branch-holding.ensures.held s _ st (c.loop-branch.invariant.held s st));
     }
 
 pub returns-clause-alive : goal.returns-clause-alive

@@ -11,9 +11,9 @@ returns-in-Some c = λ p s st.
     let m = c.args.parts.now in
     let e = c.in-Some.entry in
     c.entry_answer.ensures p s st (has_priority p m s st c.args.place e c.in-Some.ensures)
-    ∙ ap (active_at p s.cells) (ap (option_map (λ x. x.id)) c.in-Some.ensures ∙ sym (slice_get-map (λ x. x.id) m.active.roster.entries c.args.place))
+    ∙ ap (active_at p s.cells) (ap (option_map (λ x. x.id)) c.in-Some.ensures ∙ sym (slice_get-map (λ x. x.id) m.active.priority_list.entries c.args.place))
 
 pub returns-in-None : goal.returns-in-None
 returns-in-None c = λ p s st.
     let m = c.args.parts.now in
-    ap (active_at p s.cells) (ap (option_map (λ x. x.id)) c.in-None.ensures ∙ sym (slice_get-map (λ x. x.id) m.active.roster.entries c.args.place))
+    ap (active_at p s.cells) (ap (option_map (λ x. x.id)) c.in-None.ensures ∙ sym (slice_get-map (λ x. x.id) m.active.priority_list.entries c.args.place))

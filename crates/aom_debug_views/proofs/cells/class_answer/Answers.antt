@@ -1,7 +1,7 @@
 -- A class that has no object has no line.
 use Rattle.std.proofs.Common.{◌≡◌, ◌∙◌, ◌≢◌, ℕ, zero, suc, Some, ap, refl, sym}
-use Rattle.aom_debug_words.specs.declared.answer.Answer.TheVariants.{OfClass}
-use Rattle.aom_debug_views.specs.Sights.{class_answer}
+use Rattle.aom_debug_protocol.specs.declared.answer.Answer.TheVariants.{OfClass}
+use Rattle.aom_debug_views.specs.CellViews.{class_answer}
 use Rattle.aom_debug_views.proofs.cells.class_answer.Goals as goal
 
 some_of : (class n : ℕ) → n ≢ 0 → Some (OfClass class n) ≡ class_answer class n

@@ -1,7 +1,7 @@
 -- The numbers that have an object of the class are as many as its objects.
 use Rattle.std.proofs.Common.{◌≡◌, ◌∙◌, ap, arith}
 use Rattle.aom_cells.specs.Heap.{class_at}
-use Rattle.aom_debug_views.specs.Sights.{counted, is_class}
+use Rattle.aom_debug_views.specs.CellViews.{counted, is_class}
 use Rattle.aom_debug_views.proofs.Counting.{class_counted}
 use Rattle.aom_debug_views.proofs.cells.count_class.Goals as goal
 

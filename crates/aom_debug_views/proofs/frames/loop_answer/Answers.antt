@@ -1,6 +1,6 @@
 -- One without rounds has no line.
 use Rattle.std.proofs.Common.{◌≡◌, ◌≢◌, ℕ, zero, suc, Some, ap, refl, sym}
-use Rattle.aom_debug_words.specs.declared.answer.Answer.TheVariants.{Loop}
+use Rattle.aom_debug_protocol.specs.declared.answer.Answer.TheVariants.{Loop}
 use Rattle.aom_debug_views.specs.Frames.{loop_answer}
 use Rattle.aom_debug_views.proofs.frames.loop_answer.Goals as goal
 

@@ -11,4 +11,4 @@ returns-then-has_failed-clause-ok g c = tt
 pub returns-then-has_failed-clause-err : goal.returns-then-has_failed-clause-err
 returns-then-has_failed-clause-err g c =
     let part = c.write_text.ensures.prefix in
-    record { told = refl; fails = sym c.if-has_failed.ensures; sent = part.0; out = part.2 }
+    record { reported = refl; fails = sym c.if-has_failed.ensures; sent = part.0; out = part.2 }

@@ -3,7 +3,7 @@ use Rattle.std.proofs.Common.{◌≡◌, subst}
 use Rattle.std.proofs.lemmas.Result.{IfErr-weaker, IfOk-weaker, err_from_is_err_and}
 use Rattle.aom_transcript.specs.Sinks.{after}
 use Rattle.aom_debug_views.proofs.Spaced.{tail_ends}
-use Rattle.aom_debug_views.proofs.Telling.{cut_as, cut_in_first, cut_in_second, sent_on}
+use Rattle.aom_debug_views.proofs.Reporting.{cut_as, cut_in_first, cut_in_second, sent_on}
 use Rattle.aom_debug_views.proofs.sending.send_shown.Goals as goal
 
 pub returns-in_err-send-clause-err : goal.returns-in_err-send-clause-err

@@ -1,6 +1,6 @@
 -- The line, and then the words.
 use Rattle.std.proofs.lemmas.Result.{IfErr-weaker, IfOk-weaker, err_from_is_err_and}
-use Rattle.aom_debug_views.proofs.Telling.{cut_in_first, cut_in_second, sent_on}
+use Rattle.aom_debug_views.proofs.Reporting.{cut_in_first, cut_in_second, sent_on}
 use Rattle.aom_debug_views.proofs.sending.send_statement.Goals as goal
 
 pub returns-in_err-send_lead-clause-err : goal.returns-in_err-send_lead-clause-err

@@ -1,8 +1,8 @@
 -- The statement, and then the line's end.
 use Rattle.std.proofs.Common.{ap, sym}
 use Rattle.std.proofs.lemmas.Result.{IfErr-weaker, err_from_is_err_and}
-use Rattle.aom_debug_views.specs.Telling.{tail_text}
-use Rattle.aom_debug_views.proofs.Telling.{cut_as, cut_in_first, cut_in_second}
+use Rattle.aom_debug_views.specs.Reporting.{tail_text}
+use Rattle.aom_debug_views.proofs.Reporting.{cut_as, cut_in_first, cut_in_second}
 use Rattle.aom_debug_views.proofs.sending.send_tail.Goals as goal
 
 pub returns-in_err-send_statement-in-Some-clause-err : goal.returns-in_err-send_statement-in-Some-clause-err

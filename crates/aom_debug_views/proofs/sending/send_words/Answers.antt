@@ -2,7 +2,7 @@
 use Rattle.std.proofs.Common.{[], ◌∷◌, ◌++◌, refl}
 use Rattle.std.proofs.lemmas.Result.{err_from_is_err_and}
 use Rattle.aom_debug_views.proofs.Spaced.{before_space, before_word, behind_word}
-use Rattle.aom_debug_views.proofs.Telling.{cut_within, sent_on}
+use Rattle.aom_debug_views.proofs.Reporting.{cut_within, sent_on}
 use Rattle.aom_debug_views.proofs.sending.send_words.Goals as goal
 
 pub returns-in_err-send-clause-err : goal.returns-in_err-send-clause-err

@@ -1,7 +1,7 @@
 -- What is out, and then the words that are left, is all.
 use Rattle.std.proofs.Common.{◌≡◌, ◌++◌, ℕ, List, length}
 use Rattle.aom_transcript.specs.Sinks.{after}
-use Rattle.aom_explain.specs.Sources.{spaced}
+use Rattle.aom_diagnostics.specs.Sources.{spaced}
 use Rattle.aom_debug_views.proofs.sending.send_words.Given as goal
 
 abbrev pub invariant-loop-word : goal.invariant-loop-word

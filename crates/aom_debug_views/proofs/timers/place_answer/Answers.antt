@@ -10,7 +10,7 @@ returns-in-Some c = λ p s st.
     let m = c.args.parts.now in
     let t = c.in-Some.timer in
     let due = rw c.in-Some.is at c.timer.ensures.due in
-    c.timer_answer.ensures p s st (sym (st.agrees.requests.stands.dues t.id) ∙ due)
+    c.timer_answer.ensures p s st (sym (st.agrees.requests.stands.due_times t.id) ∙ due)
     ∙ ap (timer_at s.cells) (ap (option_map (λ x. x.id)) c.in-Some.ensures.value ∙ sym (slice_get-map (λ x. x.id) m.active.pending.timers c.args.place))
 
 pub returns-in-None : goal.returns-in-None

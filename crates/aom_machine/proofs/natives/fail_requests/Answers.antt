@@ -2,7 +2,7 @@
 use Rattle.std.proofs.Common.{sym, ◌∙◌, rules}
 use Rattle.aom_scheduler.specs.Requests.{request_at}
 use Rattle.aom_machine.proofs.Killing.{spares, terminates}
-use Rattle.aom_machine.proofs.MachineStateLemmas.{pending_told}
+use Rattle.aom_machine.proofs.MachineStateLemmas.{pending_reported}
 use Rattle.aom_machine.proofs.natives.fail_requests.Goals as goal
 use Rattle.aom_machine.proofs.natives.fail_requests.Goals.{then-is_pending, else-is_pending}
 
@@ -10,8 +10,8 @@ pub complete-requires : goal.complete-requires
 complete-requires c =
     let asked = c.requires.0 in
     let queues = c.requires.1 in
-    pending_told (request_at c.args.parts.now.active.table c.args.id) (asked c.args.id)
-    (queues c.args.id) (c.requires.2.tells c.args.id) c.requires.3 (sym (c.is_pending.ensures asked queues c.requires.2) ∙ c.if-is_pending.true)
+    pending_reported (request_at c.args.parts.now.active.table c.args.id) (asked c.args.id)
+    (queues c.args.id) (c.requires.2.reports c.args.id) c.requires.3 (sym (c.is_pending.ensures asked queues c.requires.2) ∙ c.if-is_pending.true)
 
 pub returns-clause-requests : goal.returns-clause-requests
 returns-clause-requests c = λ asked queues stands. elim c.if-is_pending.branch [

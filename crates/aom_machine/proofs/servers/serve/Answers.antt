@@ -19,7 +19,7 @@ begin-requires-clause-can c =
     let is = rw c.number.ensures.value at c.class-class.ensures in
     let same = same_Some can.class c.class-class.result (sym can.lives.is ∙ is) ∙ ap (λ (x : Subject). x.class) (sym c.new.ensures) in
     let waits = sym (rw c.number-server.ensures.value at c.next.ensures.taken) ∙ c.in-Some.is in
-    rw (c.count_anew.ensures, c.note_queue.ensures.rest, c.next.ensures.after, c.number-server.ensures.value)
+    rw (c.reset_counts.ensures, c.note_queue.ensures.rest, c.next.ensures.after, c.number-server.ensures.value)
     (subst (λ k. CanTake c.args.linked.now k c.in-Some.taken.client c.in-Some.taken.entry (taken_from c.args.id active m)) same
     (take_again c.args.linked.now m c.args.id active can c.in-Some.taken waits))
 

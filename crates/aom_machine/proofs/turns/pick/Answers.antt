@@ -1,6 +1,6 @@
 -- The object that is picked is the one that the checked machine dispatches.
 use Rattle.std.proofs.Common.{subst, sym, ◌∙◌}
-use Rattle.aom_active.specs.Meanings.{Picks}
+use Rattle.aom_active_objects.specs.Meanings.{Picks}
 use Rattle.aom_machine.proofs.Taking.{can_serve, serves_one}
 use Rattle.aom_machine.proofs.Turning.{picks_can, picks_none, picks_one}
 use Rattle.aom_machine.proofs.turns.pick.Goals as goal

@@ -1,6 +1,6 @@
 use Rattle.std.proofs.Common.{ap, sym, ◌∙◌}
 use Rattle.std.specs.Prelude.{option_map}
-use Rattle.aom_machine.specs.Wanted.{as_wanted}
+use Rattle.aom_machine.specs.NativeCall.{as_wanted}
 use Rattle.aom_machine.proofs.Wanting.{closes_going, going_lives, nothing_going}
 use Rattle.aom_machine.proofs.wanted.wanted_going.Goals as goal
 

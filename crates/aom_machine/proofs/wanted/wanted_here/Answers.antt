@@ -1,9 +1,9 @@
 use Rattle.std.proofs.Common.{ap, sym, ◌∙◌}
 use Rattle.std.specs.Prelude.{option_map}
-use Rattle.aom_active.specs.Agrees.{queued}
+use Rattle.aom_active_objects.specs.Agrees.{queued}
 use Rattle.aom_semantics.specs.Places.{requested}
-use Rattle.aom_machine.specs.Wanted.{as_wanted}
-use Rattle.aom_machine.proofs.MachineInstructionsLemmas.{class_fits, finds_home, finds_instr}
+use Rattle.aom_machine.specs.NativeCall.{as_wanted}
+use Rattle.aom_machine.proofs.MachineInstructionsLemmas.{class_fits, finds_receiver, finds_instr}
 use Rattle.aom_machine.proofs.Wanting.{null_wants, served_wants, unserved_wants}
 use Rattle.aom_machine.proofs.wanted.wanted_here.Goals as goal
 
@@ -12,11 +12,11 @@ returns-then-number c = λ s st. null_wants c.args.linked.now c.args.parts.now s
 
 pub living-id-requires : goal.living-id-requires
 living-id-requires c = rw c.this-number.ensures
-    (finds_home c.args.linked.now c.args.parts.now c.requires.stands c.requires.runs (λ e. c.if-number.false (c.this-number.ensures ∙ e)))
+    (finds_receiver c.args.linked.now c.args.parts.now c.requires.stands c.requires.runs (λ e. c.if-number.false (c.this-number.ensures ∙ e)))
 
 pub serving-requires-clause-lives : goal.serving-requires-clause-lives
 serving-requires-clause-lives c = rw c.this-number.ensures
-    (finds_home c.args.linked.now c.args.parts.now c.requires.stands c.requires.runs (λ e. c.if-number.false (c.this-number.ensures ∙ e)))
+    (finds_receiver c.args.linked.now c.args.parts.now c.requires.stands c.requires.runs (λ e. c.if-number.false (c.this-number.ensures ∙ e)))
 
 pub serving-requires-clause-small : goal.serving-requires-clause-small
 serving-requires-clause-small c = class_fits c.args.linked.now c.args.parts.now c.requires.stands.0 c.requires.stands.1.agrees _

@@ -1,6 +1,6 @@
 use Rattle.std.proofs.Common.{sym}
 use Rattle.aom_machine_instructions.proofs.EnterActs.{call_does, call_lives, calls_well}
-use Rattle.aom_machine_instructions.proofs.ShapeLemmas.{arguments_there, class_there}
+use Rattle.aom_machine_instructions.proofs.AbstractStateLemmas.{arguments_there, class_there}
 use Rattle.aom_machine_instructions.proofs.calls.call.Goals as goal
 
 pub method-called-requires : goal.method-called-requires

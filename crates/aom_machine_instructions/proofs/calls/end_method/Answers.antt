@@ -4,7 +4,7 @@ use Rattle.aom_machine_instructions.proofs.Finding.{finds_method, returns_to}
 use Rattle.aom_machine_instructions.proofs.ReturnActs.{dropped}
 use Rattle.aom_machine_instructions.proofs.Topping.{finds_mark}
 use Rattle.aom_machine_instructions.specs.Next.{counting}
-use Rattle.aom_machine_instructions.proofs.ShapeLemmas.{gives_there}
+use Rattle.aom_machine_instructions.proofs.AbstractStateLemmas.{gives_there}
 use Rattle.aom_machine_instructions.proofs.calls.end_method.Goals as goal
 
 pub method-method-requires : goal.method-method-requires

@@ -1,7 +1,7 @@
 use Rattle.std.proofs.Common.{inl, refl, sym}
 use Rattle.aom_machine_instructions.proofs.EnterActs.{trap_does, trap_lives, traps_well}
 use Rattle.aom_machine_instructions.proofs.Rooms.{mark_room}
-use Rattle.aom_machine_instructions.proofs.ShapeLemmas.{arguments_there, class_there}
+use Rattle.aom_machine_instructions.proofs.AbstractStateLemmas.{arguments_there, class_there}
 use Rattle.aom_machine_instructions.proofs.calls.trap.Goals as goal
 
 pub method-called-requires : goal.method-called-requires

@@ -10,4 +10,4 @@ pub returns : goal.returns
 returns c = λ refused.
     let es = c.pop.new.self in
     let popped = c.in-Some-Object.ensures.some.1 ∙ ap (λ i. record es { items = i ∷ es.items }) c.in-Some-Object.field-0-is in
-    rw c.bring.ensures.brought (pop_does c.args.parts.now refused es c.args.to c.in-Some-Object.object c.bring.ensures.in_range popped)
+    rw c.set_and_advance.ensures.brought (pop_does c.args.parts.now refused es c.args.to c.in-Some-Object.object c.set_and_advance.ensures.in_range popped)

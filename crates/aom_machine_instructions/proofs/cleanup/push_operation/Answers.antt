@@ -1,5 +1,5 @@
 use Rattle.std.proofs.Common.{true, false, refl, sym, ◌∙◌}
-use Rattle.aom_rules.specs.Ways.{Pushed_operation}
+use Rattle.aom_typing_rules.specs.Ways.{Pushed_operation}
 use Rattle.aom_machine_instructions.proofs.EntryActs.{push_operation_does}
 use Rattle.aom_machine_instructions.proofs.Rooms.{entries_room}
 use Rattle.aom_machine_instructions.proofs.cleanup.push_operation.Goals as goal

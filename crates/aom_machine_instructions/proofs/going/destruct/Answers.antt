@@ -1,7 +1,7 @@
 use Rattle.std.proofs.Common.{ap, rules, sym, ◌∙◌}
 use Rattle.std.specs.Prelude.{is_some}
 use Rattle.aom_image.specs.declared.method.Role.TheVariants.{Destruct}
-use Rattle.aom_machine_instructions.proofs.FamiliesLemmas.{families_inherit}
+use Rattle.aom_machine_instructions.proofs.InheritanceLemmas.{families_inherit}
 use Rattle.aom_machine_instructions.proofs.going.destruct.Goals as goal
 
 pub destructor_frame-requires : goal.destructor_frame-requires

@@ -1,4 +1,4 @@
-use Rattle.aom_machine_instructions.proofs.ShapeLemmas.{class_there}
+use Rattle.aom_machine_instructions.proofs.AbstractStateLemmas.{class_there}
 use Rattle.aom_machine_instructions.proofs.going.destructor_frame.Goals as goal
 
 pub returns : goal.returns

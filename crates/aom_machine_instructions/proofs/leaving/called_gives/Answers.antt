@@ -1,5 +1,5 @@
 use Rattle.std.proofs.Common.{sym, ◌∙◌}
-use Rattle.aom_machine_instructions.proofs.ShapeLemmas.{gives_there}
+use Rattle.aom_machine_instructions.proofs.AbstractStateLemmas.{gives_there}
 use Rattle.aom_machine_instructions.proofs.leaving.called_gives.Goals as goal
 
 pub returns-in-Some : goal.returns-in-Some

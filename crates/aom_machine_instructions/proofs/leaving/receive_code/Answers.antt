@@ -23,7 +23,7 @@ returns c =
     let bits : c.cast_unsigned.result ≡ of_z w32 c.args.code = c.cast_unsigned.ensures ∙ ap (of_z w32) (to_z-of_z w32 c.args.code fits) in
     let made : Gives → ℕ → ℕ → ℕ → Parts = λ g x k n. next (set_register k n (lost g x m)) in
     let after : (result_register i + 1) ≡ suc (result_register i) = omega arith in
-    rw (c.bring.ensures, c.lose_result.ensures)
+    rw (c.set_and_advance.ensures, c.lose_result.ensures)
     (ap (λ g. made g c.result_of-to.result (c.result_of-to.result + 1) c.cast_unsigned.result) gives
     ∙ ap (λ x. made (called p i) x (x + 1) c.cast_unsigned.result) to ∙ ap (λ k. made (called p i) (result_register i) k c.cast_unsigned.result) after
     ∙ ap (λ n. made (called p i) (result_register i) (suc (result_register i)) n) bits)
@@ -37,17 +37,17 @@ lose_result-requires-clause-runs c = c.requires.runs
 pub lose_result-requires-clause-within : goal.lose_result-requires-clause-within
 lose_result-requires-clause-within c = c.result_of-to.ensures.in_range
 
-pub bring-requires-clause-within : goal.bring-requires-clause-within
-bring-requires-clause-within c =
+pub set_and_advance-requires-clause-within : goal.set_and_advance-requires-clause-within
+set_and_advance-requires-clause-within c =
     let to = c.result_of-to.ensures.value ∙ ap result_register (sym c.fetch-instr.ensures) in
     omega (arith, to, c.requires.coded)
 
-pub bring-requires-clause-runs : goal.bring-requires-clause-runs
-bring-requires-clause-runs c =
+pub set_and_advance-requires-clause-runs : goal.set_and_advance-requires-clause-runs
+set_and_advance-requires-clause-runs c =
     let on = lost_goes_on c.called_gives-gives.result c.result_of-to.result c.args.parts.now (record { runs = c.requires.runs; within = c.requires.within }) in
     rw c.lose_result.ensures on.runs
 
-pub bring-requires-clause-place : goal.bring-requires-clause-place
-bring-requires-clause-place c =
+pub set_and_advance-requires-clause-place : goal.set_and_advance-requires-clause-place
+set_and_advance-requires-clause-place c =
     let on = lost_goes_on c.called_gives-gives.result c.result_of-to.result c.args.parts.now (record { runs = c.requires.runs; within = c.requires.within }) in
     rw c.lose_result.ensures on.within

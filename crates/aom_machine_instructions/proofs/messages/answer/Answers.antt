@@ -1,7 +1,7 @@
 use Rattle.std.proofs.Common.{inr}
 use Rattle.std.specs.Int.{w32}
 use Rattle.std.proofs.lemmas.Int.{to_z-of_z}
-use Rattle.aom_machine_instructions.proofs.TokenActs.{is_no_token, place_told}
+use Rattle.aom_machine_instructions.proofs.TokenActs.{is_no_token, place_reported}
 use Rattle.aom_machine_instructions.proofs.messages.answer.Goals as goal
 
 pub returns-else-is_some : goal.returns-else-is_some
@@ -10,5 +10,5 @@ returns-else-is_some c =
     inr (record {
       completes = completes;
       sent = is_no_token c.args.parts.now.tokens c.numbered-id.result completes.place c.class.result c.is_some.result c.class.ensures
-          c.is_some.ensures c.if-is_some.false (place_told completes.place c.numbered-id.result c.args.number completes.number c.numbered-id.ensures);
+          c.is_some.ensures c.if-is_some.false (place_reported completes.place c.numbered-id.result c.args.number completes.number c.numbered-id.ensures);
     })

@@ -19,7 +19,7 @@ hand_out-token-requires-clause-places c = hand_places c.requires.0 c.args.parts.
 
 pub returns : goal.returns
 returns c = λ refused.
-    let told = rw (c.number.ensures.value, c.living-id.ensures.value, c.this.ensures) at c.class-class.ensures in
+    let reported = rw (c.number.ensures.value, c.living-id.ensures.value, c.this.ensures) at c.class-class.ensures in
     let hands = rw (c.living-id.ensures.value, c.this.ensures) at c.hand_out-token.ensures in
-    rw c.bring.ensures.brought
-    (hand_does c.args.parts.now refused c.args.to c.class-class.result c.bring.ensures.in_range told c.hand_out-token.result c.hand_out-token.new.parts hands)
+    rw c.set_and_advance.ensures.brought
+    (hand_does c.args.parts.now refused c.args.to c.class-class.result c.set_and_advance.ensures.in_range reported c.hand_out-token.result c.hand_out-token.new.parts hands)

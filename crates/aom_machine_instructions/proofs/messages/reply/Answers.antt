@@ -2,7 +2,7 @@ use Rattle.std.proofs.Common.{rules, FitsSigned, to_z, of_z, w32, ◌∙◌}
 use Rattle.std.proofs.lemmas.Int.{to_z-of_z}
 use Rattle.aom_cells.specs.Heap.{null}
 use Rattle.aom_machine_instructions.proofs.Resulting.{set_goes_on}
-use Rattle.aom_machine_instructions.proofs.TokenActs.{answer_done, answer_rest, answer_told, reply_answerable}
+use Rattle.aom_machine_instructions.proofs.TokenActs.{answer_done, answer_rest, answer_reported, reply_answerable}
 use Rattle.aom_machine_instructions.proofs.messages.reply.Goals as goal
 
 pub answer-requires-clause-open : goal.answer-requires-clause-open
@@ -18,10 +18,10 @@ returns-clause-does c =
     c.take_register-message.ensures.emptied c.take_register-message.ensures.value (to_z-of_z w32 c.word-code.result fits
     ∙ c.word-code.ensures) refused c.next.new.self c.take_register-message.ensures.in_range c.next.ensures c.answer.ensures
 
-pub returns-clause-tells : goal.returns-clause-tells
-returns-clause-tells c =
+pub returns-clause-reports : goal.returns-clause-reports
+returns-clause-reports c =
     let fits : FitsSigned w32 c.word-code.result = search rules in
-    answer_told c.args.parts.now c.take_register-message.new.self c.answer.new.parts c.args.lines.now c.answer.new.lines c.take_register-message.result
+    answer_reported c.args.parts.now c.take_register-message.new.self c.answer.new.parts c.args.lines.now c.answer.new.lines c.take_register-message.result
     (to_z w32 (of_z w32 c.word-code.result)) c.args.from c.args.code
     c.take_register-message.ensures.emptied c.take_register-message.ensures.value (to_z-of_z w32 c.word-code.result fits ∙ c.word-code.ensures) c.answer.ensures
 

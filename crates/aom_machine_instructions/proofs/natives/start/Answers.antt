@@ -1,7 +1,7 @@
 use Rattle.std.proofs.Common.{rules, FitsSigned, ap, subst, sym, ◌∙◌}
 use Rattle.std.specs.Int.{w32}
 use Rattle.std.proofs.lemmas.Int.{to_z-of_z}
-use Rattle.aom_active.specs.Meanings.{Makes, begun_with}
+use Rattle.aom_active_objects.specs.Meanings.{Makes, begun_with}
 use Rattle.aom_machine_instructions.specs.Natives.{begins_with}
 use Rattle.aom_machine_instructions.proofs.natives.start.Goals as goal
 

@@ -21,18 +21,18 @@ enlist-requires-clause-fresh c = rw (c.living-id.ensures.value, c.this.ensures) 
 
 pub returns : goal.returns
 returns c = λ refused.
-    let told = rw (c.number.ensures.value, c.living-id.ensures.value, c.this.ensures) at c.class-class.ensures in
+    let reported = rw (c.number.ensures.value, c.living-id.ensures.value, c.this.ensures) at c.class-class.ensures in
     elim c.if-is_server.branch [
       | then-is_server w ↦
           let enlists = rw (c.living-id.ensures.value, c.this.ensures, to_z-of_z w32 c.args.priority c.ranges.priority) at w.enlist_server.ensures in
           let small = subst (λ n. n < 256) w.number-then-is_server.ensures.value w.number-then-is_server.ensures.in_range in
           rw (c.next.ensures, w.parts-is, w.push_last.ensures, w.number-then-is_server.ensures.value, w.number-then-is_server-2.ensures.value, c.living-id.ensures.value, c.this.ensures)
-          (enlist_server_does c.args.linked.now c.args.parts.now refused w.enlist_server.new.self c.args.priority c.class-class.result told
+          (enlist_server_does c.args.linked.now c.args.parts.now refused w.enlist_server.new.self c.args.priority c.class-class.result reported
           (sym c.is_server.ensures ∙ w.if-is_server.true) small enlists)
       | else-is_server w ↦
           let enlists = rw (c.living-id.ensures.value, c.this.ensures, to_z-of_z w32 c.args.priority c.ranges.priority) at w.enlist.ensures in
           rw (c.next.ensures, w.parts-is) (enlist_plain_does c.args.linked.now c.args.parts.now refused w.enlist.new.self c.args.priority
-          (ap (is_server_class c.args.linked.now) told ∙ sym c.is_server.ensures ∙ w.if-is_server.false) enlists)
+          (ap (is_server_class c.args.linked.now) reported ∙ sym c.is_server.ensures ∙ w.if-is_server.false) enlists)
     ]
 
 pub next-requires-clause-runs : goal.next-requires-clause-runs

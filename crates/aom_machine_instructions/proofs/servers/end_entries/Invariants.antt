@@ -1,6 +1,6 @@
 use Rattle.std.proofs.Common.{length}
 use Rattle.aom_clients.specs.Clients.{queue_at}
-use Rattle.aom_machine_instructions.proofs.Vanishing.{Going}
+use Rattle.aom_machine_instructions.proofs.Reclaiming.{Going}
 use Rattle.aom_machine_instructions.proofs.servers.end_entries.Given as goal
 
 abbrev pub invariant-loop-taken : goal.invariant-loop-taken

@@ -1,6 +1,6 @@
 use Rattle.std.proofs.Common.{ap, ◌∙◌}
 use Rattle.aom_clients.specs.Clients.{queue_at, queue_gone, sessions_gone}
-use Rattle.aom_machine_instructions.proofs.Vanishing.{sessions_still}
+use Rattle.aom_machine_instructions.proofs.Reclaiming.{sessions_still}
 use Rattle.aom_machine_instructions.proofs.servers.end_server.Goals as goal
 
 pub returns-clause-clients : goal.returns-clause-clients

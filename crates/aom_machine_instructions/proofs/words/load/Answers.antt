@@ -3,7 +3,7 @@ use Rattle.std.specs.Int.{w32}
 use Rattle.std.proofs.lemmas.Int.{to_z-of_z}
 use Rattle.aom_machine_state.specs.Places.{WritesWord}
 use Rattle.aom_machine_instructions.proofs.FieldActs.{load_does}
-use Rattle.aom_machine_instructions.proofs.Housing.{finds_words}
+use Rattle.aom_machine_instructions.proofs.ReceiverHolding.{finds_words}
 use Rattle.aom_machine_instructions.proofs.words.load.Goals as goal
 
 pub field_word-value-requires-clause-lives : goal.field_word-value-requires-clause-lives

@@ -3,7 +3,7 @@ use Rattle.std.specs.Int.{w32}
 use Rattle.std.proofs.lemmas.Int.{to_z-of_z}
 use Rattle.aom_machine_state.specs.Fields.{this, PutsWord}
 use Rattle.aom_machine_instructions.proofs.FieldActs.{store_does}
-use Rattle.aom_machine_instructions.proofs.Housing.{finds_words}
+use Rattle.aom_machine_instructions.proofs.ReceiverHolding.{finds_words}
 use Rattle.aom_machine_instructions.proofs.words.store.Goals as goal
 
 pub set_field_word-requires-clause-lives : goal.set_field_word-requires-clause-lives

@@ -48,7 +48,7 @@ go\n\
 ";
 
 /// What is told.
-pub const CANCELS_TOLD: &str = "\
+pub const CANCELS_REPORTED: &str = "\
 @0 main\n\
 between 1\n\
 0 0 active -2\n\

@@ -1,19 +1,19 @@
 //! Any request for memory may be refused: then nothing is told of the session but that. None is made once it has begun.
-use super::programs::{CANCELS, CANCELS_ASKED, CANCELS_TOLD};
+use super::programs::{CANCELS, CANCELS_ASKED, CANCELS_REPORTED};
 use super::readers::Typed;
 use aom_commands::{ExitStatus, asm_bytes};
 use aom_debug::debug_bytes;
 use aom_natives::Native;
-use aom_test_sinks::{BoundedPage, Slip};
+use aom_test_sinks::{BoundedPage, FixedSink};
 use std::alloc::Global;
 
 /// How the cancel is assembled.
-fn assembles(alloc: Global, image: &mut BoundedPage, errors: &mut Slip) -> ExitStatus {
+fn assembles(alloc: Global, image: &mut BoundedPage, errors: &mut FixedSink) -> ExitStatus {
     asm_bytes(alloc, CANCELS.as_bytes(), image, errors)
 }
 
 /// How a session on an image ends.
-fn debugs(alloc: Global, image: &[u8], out: &mut Slip, errors: &mut Slip) -> ExitStatus {
+fn debugs(alloc: Global, image: &[u8], out: &mut FixedSink, errors: &mut FixedSink) -> ExitStatus {
     let boxes: Vec<Box<dyn Native>> = Vec::new(alloc);
     let mut reader = Typed {
         rest: CANCELS_ASKED.as_bytes(),
@@ -34,10 +34,10 @@ fn debugs(alloc: Global, image: &[u8], out: &mut Slip, errors: &mut Slip) -> Exi
 }
 
 #[test]
-fn a_session_is_told_whole_or_not_at_all(rt: HostRuntime) {
+fn a_session_is_reported_whole_or_not_at_all(rt: HostRuntime) {
     let mut image = BoundedPage::new(rt.alloc(), 4096);
-    let mut out = Slip::blank();
-    let mut errors = Slip::blank();
+    let mut out = FixedSink::blank();
+    let mut errors = FixedSink::blank();
     if assembles(rt.alloc(), &mut image, &mut errors) != ExitStatus::Done {
         assert!(rt; errors.has(b"memory\n") || errors.has(b"write\n"));
         return;
@@ -48,5 +48,5 @@ fn a_session_is_told_whole_or_not_at_all(rt: HostRuntime) {
         return;
     }
     assert!(rt; ended == ExitStatus::Done);
-    assert!(rt; out.has(CANCELS_TOLD.as_bytes()) && errors.has(b""));
+    assert!(rt; out.has(CANCELS_REPORTED.as_bytes()) && errors.has(b""));
 }

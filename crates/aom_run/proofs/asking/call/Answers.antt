@@ -1,7 +1,7 @@
 use Rattle.std.proofs.Common.{rules, ap, refl, w32}
 use Rattle.std.specs.Prelude.{FitsSigned}
 use Rattle.std.proofs.lemmas.Int.{to_z-of_z}
-use Rattle.aom_machine.specs.Wanted.{as_wanted}
+use Rattle.aom_machine.specs.NativeCall.{as_wanted}
 use Rattle.aom_run.proofs.Stepped.{asked_alone, asked_to_start}
 use Rattle.aom_run.proofs.asking.call.Goals as goal
 

@@ -51,7 +51,7 @@ pub loop-lines-preserved : goal.loop-lines-preserved
 loop-lines-preserved g c =
     let i = c.loop-lines.invariant in
     let old = c.args.machine.now in
-    let told = c.args.lines.now in
+    let reported = c.args.lines.now in
     let m = c.loop-lines.machine in
     let mid = c.loop-lines.lines in
     let new = c.step_on-progress.new.self in
@@ -63,7 +63,7 @@ loop-lines-preserved g c =
     let count = ap length c.lines.ensures in
     let test = c.if-lines-ge-MANY_LINES.false in
     record {
-      went = went old new told now progress (filled old m new told mid now progress i.went i.kept.image steps);
+      went = went old new reported now progress (filled old m new reported mid now progress i.went i.kept.image steps);
       stands = stands_on m new mid now progress i.stands steps;
       agree = c.step_on-progress.ensures.agree;
       kept = image_on i.kept c.step_on-progress.ensures.image c.step_on-progress.ensures.natives;

@@ -4,7 +4,7 @@ use Rattle.aom_machine_state.specs.LineBuffer.{LineBuffer}
 use Rattle.aom_semantics.specs.World.{boot_state}
 use Rattle.aom_run.specs.Calls.{Stands, natives_of}
 use Rattle.aom_transcript.specs.Naming.{named_by}
-use Rattle.aom_run.specs.Turns.{hearing}
+use Rattle.aom_run.specs.Turns.{observing}
 use Rattle.aom_run.proofs.Running.{after_turns, cut, ends, fewer_left_by, given_up, sent_far, sent_on, sent_rests, sent_buffer, starts, turned_end, turned_few}
 use Rattle.aom_run.proofs.Running.{turned_now, turned_same, turned_stands, turns_as}
 use Rattle.aom_run.proofs.runs.run_lines.Goals as goal
@@ -18,7 +18,7 @@ run_dispatch-requires g c =
 
 pub returns-in_err-progress-clause-none : goal.returns-in_err-progress-clause-none
 returns-in_err-progress-clause-none g c =
-    let outside = hearing c.args.lines.now.refused c.args.limit (natives_of c.args.machine.now) c.args.events.now in
+    let outside = observing c.args.lines.now.refused c.args.limit (natives_of c.args.machine.now) c.args.events.now in
     let out = g.W.Sink.out c.args.out.now in
     let far = starts outside out c.args.machine.now c.clear.new.self.lines (ap (λ (t : LineBuffer). t.lines) c.clear.ensures) c.requires.fresh in
     let off = c.in_err-progress.ensures.none in
@@ -31,7 +31,7 @@ returns-in_err-progress-clause-none g c =
 
 pub loop-progress-init : goal.loop-progress-init
 loop-progress-init g c =
-    let outside = hearing c.args.lines.now.refused c.args.limit (natives_of c.args.machine.now) c.args.events.now in
+    let outside = observing c.args.lines.now.refused c.args.limit (natives_of c.args.machine.now) c.args.events.now in
     let out = g.W.Sink.out c.args.out.now in
     let far = starts outside out c.args.machine.now c.clear.new.self.lines (ap (λ (t : LineBuffer). t.lines) c.clear.ensures) c.requires.fresh in
     let sent = c.in_ok-progress.ensures.some in
@@ -55,7 +55,7 @@ returns-in-Ended g c =
       agree = i.agree;
       image = i.image;
       none = tt;
-      some = ends _ (hearing c.args.lines.now.refused c.args.limit (natives_of c.args.machine.now) c.args.events.now)
+      some = ends _ (observing c.args.lines.now.refused c.args.limit (natives_of c.args.machine.now) c.args.events.now)
           (g.W.Sink.out c.args.out.now) (g.W.Sink.out c.loop-progress.out) (g.W.Sink.out c.loop-progress.out) c.loop-progress.machine c.loop-progress.machine
           c.loop-progress.lines c.loop-progress.lines i.so_far i.image (ap (λ (t : LineBuffer). t.lines) i.lines) c.in-Ended.ending (sym c.in-Ended.is ∙ i.as_far);
     }
@@ -82,7 +82,7 @@ returns-in-Some g c =
       agree = c.take_turns.ensures.agree;
       image = c.take_turns.ensures.image ∙ i.image;
       none = tt;
-      some = turned_end _ (hearing c.args.lines.now.refused c.args.limit (natives_of c.args.machine.now) c.args.events.now)
+      some = turned_end _ (observing c.args.lines.now.refused c.args.limit (natives_of c.args.machine.now) c.args.events.now)
           (g.W.Sink.out c.args.out.now) (g.W.Sink.out c.loop-progress.out)
           (g.W.Sink.out c.loop-progress.out) c.loop-progress.machine c.take_turns.new.machine c.loop-progress.lines c.take_turns.new.lines i.so_far i.image
           (ap (λ (t : LineBuffer). t.lines) i.lines) c.in-Some.ending (turns_as c.loop-progress.machine c.take_turns.new.machine c.args.limit c.args.events.now
@@ -92,7 +92,7 @@ returns-in-Some g c =
 pub run_dispatch-requires-in-loop-progress : goal.run_dispatch-requires-in-loop-progress
 run_dispatch-requires-in-loop-progress g c =
     let i = c.loop-progress.invariant in
-    let outside = hearing c.loop-progress.lines.refused c.args.limit (natives_of c.loop-progress.machine) c.args.events.now in
+    let outside = observing c.loop-progress.lines.refused c.args.limit (natives_of c.loop-progress.machine) c.args.events.now in
     let stands : Stands c.loop-progress.machine = (i.so_far.state, i.so_far.stands) in
     let turns = c.in_default-take_turns.ensures.turns in
     let messages = ap (λ (p : Image). p.header.messages) (c.take_turns.ensures.image ∙ i.image) in

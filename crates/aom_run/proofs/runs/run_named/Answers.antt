@@ -4,7 +4,7 @@ use Rattle.aom_run.specs.Calls.{EventInRange, natives_of}
 use Rattle.aom_transcript.specs.declared.event.TimedEvent.{TimedEvent}
 use Rattle.aom_run.specs.Runs.{CutShort, Ended}
 use Rattle.aom_transcript.specs.Naming.{named_by}
-use Rattle.aom_run.specs.Turns.{hearing}
+use Rattle.aom_run.specs.Turns.{observing}
 use Rattle.aom_run.proofs.Gets.{ranged}
 use Rattle.aom_run.proofs.Running.{ran}
 use Rattle.aom_run.proofs.runs.run_named.Goals as goal
@@ -16,14 +16,14 @@ pub returns-in-Some-clause-ran : goal.returns-in-Some-clause-ran
 returns-in-Some-clause-ran g c =
     let finish = c.finish.ensures in
     let run = subst (λ (es : List TimedEvent). Ended
-    (named_by c.args.names) c.args.machine.now.core.image (hearing c.args.lines.now.refused c.args.limit (natives_of c.args.machine.now) es) c.in-Some.ending
+    (named_by c.args.names) c.args.machine.now.core.image (observing c.args.lines.now.refused c.args.limit (natives_of c.args.machine.now) es) c.in-Some.ending
     (g.W.Sink.out c.args.out.now) (g.W.Sink.out c.run_lines.new.out) c.run_lines.new.machine) c.events.ensures c.in-Some.ensures.some in
     ran c.args.machine.now c.run_lines.new.machine _ _ _ _ _ _ run c.finish.result finish.fault finish.outcome finish.prefix finish.whole
 
 pub returns-in-None-clause-ran : goal.returns-in-None-clause-ran
 returns-in-None-clause-ran g c =
     let cut = λ (es : List TimedEvent). (g.W.Sink.failed c.run_lines.new.out ≡ true) × CutShort (named_by c.args.names) c.args.machine.now.core.image
-    (hearing c.args.lines.now.refused c.args.limit (natives_of c.args.machine.now) es) (g.W.Sink.out c.args.out.now) (g.W.Sink.out c.run_lines.new.out) in
+    (observing c.args.lines.now.refused c.args.limit (natives_of c.args.machine.now) es) (g.W.Sink.out c.args.out.now) (g.W.Sink.out c.run_lines.new.out) in
     subst cut c.events.ensures c.in-None.ensures.none
 
 pub returns-in-None-clause-determined : goal.returns-in-None-clause-determined

@@ -1,7 +1,7 @@
 use Rattle.std.proofs.Common.{inl, inr, refl, subst, sym, ◌<◌, ◌∙◌}
 use Rattle.aom_machine.specs.Steps.{timers}
 use Rattle.aom_run.specs.Calls.{Completed as Completes_one}
-use Rattle.aom_run.specs.Turns.{CompletesDue, IsDue, Keeps}
+use Rattle.aom_run.specs.Turns.{CompletesDue, IsDue, KeepsMachine}
 use Rattle.aom_run.proofs.Between.{completed_far, completed_stands, fewer_then, no_more_then, none_completed, none_still, one_completed, was_due}
 use Rattle.aom_run.proofs.Keeping.{as_many, keeps_all, keeps_on}
 use Rattle.aom_run.proofs.turns.complete_due.Goals as goal
@@ -47,9 +47,9 @@ returns g c =
     record {
       agree = c.due.ensures.agree;
       natives = c.due.ensures.natives ∙ i.natives;
-      kept = subst (λ x. Keeps c.args.machine.now x) same i.keeps;
+      kept = subst (λ x. KeepsMachine c.args.machine.now x) same i.keeps;
       completed = subst (λ x. CompletesDue c.args.machine.now x) same i.completed;
       none = none_still m new none.0 none.1;
-      no_more = no_more_then c.args.machine.now m new i.fewer none.0;
+      implied = no_more_then c.args.machine.now m new i.fewer none.0;
       falls = subst (λ x. IsDue c.args.machine.now → timers x.core < timers c.args.machine.now.core) same (was_due c.args.machine.now m i.fewer none.1);
     }

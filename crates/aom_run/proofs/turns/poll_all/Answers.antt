@@ -1,6 +1,6 @@
 -- Each living native is polled.
 use Rattle.std.proofs.Common.{refl, subst, sym, ◌∙◌}
-use Rattle.aom_run.specs.Turns.{Keeps, Settles}
+use Rattle.aom_run.specs.Turns.{KeepsMachine, Settles}
 use Rattle.aom_run.proofs.Between.{all_polled, kept_come, none_settles, polled_far, polled_settles, polled_so, polled_stands, settles_both, still_rest}
 use Rattle.aom_run.proofs.Keeping.{keeps_on, times_all, times_on}
 use Rattle.aom_run.proofs.turns.poll_all.Goals as goal
@@ -43,7 +43,7 @@ returns g c =
     let last = all_polled c.loop.machine c.poll.new.self _ c.poll.result c.loop-test.false e.polled in
     record {
       agree = e.agree;
-      kept = subst (λ x. Keeps c.args.machine.now x) (sym last.0) i.kept.keeps;
+      kept = subst (λ x. KeepsMachine c.args.machine.now x) (sym last.0) i.kept.keeps;
       settled = λ events come. subst (λ x. Settles events c.args.machine.now x) (sym last.0) (i.settled events come);
       none_due = e.none_due i.kept.none_due;
       rest = still_rest c.args.machine.now c.loop.machine c.poll.new.self i.rest e.rest;

@@ -4,9 +4,9 @@ use Rattle.aom_machine_state.specs.LineBuffer.{LineBuffer}
 use Rattle.aom_run.specs.Calls.{Picked, natives_of}
 use Rattle.aom_run.proofs.Keeping.{as_many}
 use Rattle.aom_run.proofs.Serving.{cut_so, waited_so}
-use Rattle.aom_run.specs.Turns.{HearsAll, TakesTurns, hearing, waiting}
-use Rattle.aom_run.proofs.Resting.{dispatches_one, ends_told, limit_cuts, no_earlier, none_picked, passed_far, passed_late, passed_stands, passed_to_come}
-use Rattle.aom_run.proofs.Resting.{rests_on, tells_on, waits_on}
+use Rattle.aom_run.specs.Turns.{ObservesAll, TakesTurns, observing, waiting}
+use Rattle.aom_run.proofs.Resting.{dispatches_one, ends_reported, limit_cuts, no_earlier, none_picked, passed_far, passed_late, passed_stands, passed_to_come}
+use Rattle.aom_run.proofs.Resting.{rests_on, reports_on, waits_on}
 use Rattle.aom_run.proofs.turns.take_turns.Goals as goal
 
 pub returns-then-dispatches-from-clause-turns : goal.returns-then-dispatches-from-clause-turns
@@ -22,9 +22,9 @@ returns-then-settle-clause-turns g c =
     let under = c.if-dispatches-from.false in
     let limit = c.from.ensures in
     let dispatches = c.dispatches.ensures ∙ ap (λ r. r.dispatches) c.rest.ensures in
-    ends_told c.args.machine.now c.settle.new.machine c.args.events.now c.args.lines.now.refused c.args.limit c.args.lines.now c.settle.new.lines
+    ends_reported c.args.machine.now c.settle.new.machine c.args.events.now c.args.lines.now.refused c.args.limit c.args.lines.now c.settle.new.lines
     (omega (arith, under, limit, dispatches)) (subst
-    (λ b. HearsAll b c.args.events.now c.args.machine.now c.args.lines.now c.settle.new.lines c.settle.new.machine) c.if-settle.true c.settle.ensures.heard)
+    (λ b. ObservesAll b c.args.events.now c.args.machine.now c.args.lines.now c.settle.new.lines c.settle.new.machine) c.if-settle.true c.settle.ensures.observed)
 
 pub loop-limit-init : goal.loop-limit-init
 loop-limit-init g c =
@@ -33,7 +33,7 @@ loop-limit-init g c =
     let dispatches = c.dispatches.ensures ∙ ap (λ r. r.dispatches) c.rest.ensures in
     let done = c.settle.ensures in
     let quiet = c.if-settle.false in
-    let all = subst (λ b. HearsAll b c.args.events.now c.args.machine.now c.args.lines.now c.settle.new.lines c.settle.new.machine) quiet done.heard in
+    let all = subst (λ b. ObservesAll b c.args.events.now c.args.machine.now c.args.lines.now c.settle.new.lines c.settle.new.machine) quiet done.observed in
     record {
       rests = record {
         below = omega (arith, under, limit, dispatches);
@@ -84,7 +84,7 @@ returns-in_default g c =
       agree = c.pick.ensures.agree;
       image = c.wait.ensures.image ∙ k.0.image;
       natives = k.0.natives;
-      turns = subst (λ t. TakesTurns c.args.machine.now (hearing c.args.lines.now.refused c.args.limit (natives_of c.args.machine.now) c.args.events.now)
+      turns = subst (λ t. TakesTurns c.args.machine.now (observing c.args.lines.now.refused c.args.limit (natives_of c.args.machine.now) c.args.events.now)
           (Some Waiting) c.args.lines.now t (record { core = c.wait.new.self; natives = c.pick.new.self.natives })) (sym (k.1 ∙ i.lines)) waits;
     }
 
@@ -121,15 +121,15 @@ returns-then-settle-2 g c =
     let done = c.settle-in-loop-limit.ensures in
     let new = c.settle-in-loop-limit.new.machine in
     let now = c.settle-in-loop-limit.new.lines in
-    let tells = subst (λ t. HearsAll true c.args.events.now c.set_clock.new.self t now new)
-    (k.1 ∙ i.lines) (subst (λ b. HearsAll b c.args.events.now c.set_clock.new.self c.pick.new.lines now new) c.if-settle-2.true done.heard) in
+    let reports = subst (λ t. ObservesAll true c.args.events.now c.set_clock.new.self t now new)
+    (k.1 ∙ i.lines) (subst (λ b. ObservesAll b c.args.events.now c.set_clock.new.self c.pick.new.lines now new) c.if-settle-2.true done.observed) in
     record {
       agree = done.agree;
       image = done.kept.image ∙ e.image ∙ k.0.image;
       natives = done.kept.natives ∙ as_many c.pick.new.self c.set_clock.new.self e.natives ∙ k.0.natives;
-      turns = tells_on c.args.machine.now c.pick.new.self c.args.events.now
+      turns = reports_on c.args.machine.now c.pick.new.self c.args.events.now
           c.args.lines.now.refused c.args.limit k.0 k.2 c.next_time.result c.next_time.ensures c.in-Some.time c.in-Some.is c.set_clock.new.self e.image e.passed
-          (as_many c.pick.new.self c.set_clock.new.self e.natives) new c.args.lines.now now tells;
+          (as_many c.pick.new.self c.set_clock.new.self e.natives) new c.args.lines.now now reports;
     }
 
 pub loop-limit-smaller : goal.loop-limit-smaller
@@ -153,8 +153,8 @@ loop-limit-preserved g c =
     let e = c.set_clock.ensures in
     let done = c.settle-in-loop-limit.ensures in
     let quiet = c.if-settle-2.false in
-    let all = subst (λ b. HearsAll b c.args.events.now c.set_clock.new.self c.pick.new.lines c.settle-in-loop-limit.new.lines c.settle-in-loop-limit.new.machine)
-    quiet done.heard in
+    let all = subst (λ b. ObservesAll b c.args.events.now c.set_clock.new.self c.pick.new.lines c.settle-in-loop-limit.new.lines c.settle-in-loop-limit.new.machine)
+    quiet done.observed in
     record {
       rests = rests_on c.args.machine.now c.pick.new.self c.args.events.now c.args.lines.now.refused c.args.limit k.0 k.2 c.next_time.result
           c.next_time.ensures c.in-Some.time c.in-Some.is c.set_clock.new.self e.image e.passed (as_many c.pick.new.self c.set_clock.new.self e.natives)

@@ -1,6 +1,6 @@
 use Rattle.std.proofs.Common.{rules}
 use Rattle.std.proofs.lemmas.List.Sorted.{IsPartitionPoint-from_clause}
-use Rattle.aom_scheduler.specs.Roster.{before}
+use Rattle.aom_scheduler.specs.PriorityList.{before}
 use Rattle.aom_scheduler.proofs.Items.{searchable}
 use Rattle.aom_scheduler.proofs.Places.{by_priority}
 use Rattle.aom_scheduler.proofs.order.place_for.Goals as goal

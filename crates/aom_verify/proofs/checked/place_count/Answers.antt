@@ -3,7 +3,7 @@ use Rattle.std.proofs.Common.{◌≡◌, ◌∙◌, ap}
 use Rattle.aom_image.specs.Image.{Image}
 use Rattle.aom_image.specs.Views.{method_at}
 use Rattle.aom_image.specs.WellFormed.{WellFormed}
-use Rattle.aom_verify.proofs.ClassesLemmas.{read, within}
+use Rattle.aom_verify.proofs.LinkConditionsLemmas.{read, within}
 use Rattle.aom_verify.proofs.Places.{some_places}
 use Rattle.aom_verify.proofs.checked.place_count.Goals as goal
 

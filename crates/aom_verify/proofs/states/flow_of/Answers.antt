@@ -1,6 +1,6 @@
 -- The rule's answer, with its flows within the method.
 use Rattle.std.proofs.lemmas.Result.{IfOk-weaker}
-use Rattle.aom_verify.proofs.ClassesLemmas.{has_method}
+use Rattle.aom_verify.proofs.LinkConditionsLemmas.{has_method}
 use Rattle.aom_verify.proofs.Few.{flows_few}
 use Rattle.aom_verify.proofs.Places.{few_places}
 use Rattle.aom_verify.proofs.Ways.{rule_flows, rule_fails, ways_within}

@@ -6,17 +6,17 @@ use Rattle.aom_verify.proofs.stop.stop_of.Goals as goal
 
 pub returns-in-Ok-clause-none : goal.returns-in-Ok-clause-none
 returns-in-Ok-clause-none c =
-    let strongest = settled _ _ _ _ _ c.place_count.ensures.some c.entry-entry.ensures.no_more c.entry-entry.ensures.no_less
-    (rw c.in_ok-sheet.ensures at c.in-Ok.ensures.ok) in
+    let strongest = settled _ _ _ _ _ c.place_count.ensures.some c.entry-entry.ensures.implied c.entry-entry.ensures.no_less
+    (rw c.in_ok-state_table.ensures at c.in-Ok.ensures.ok) in
     record { states = _; typed = strongest.typed }
 
 pub returns-in-Err-At-clause-some : goal.returns-in-Err-At-clause-some
 returns-in-Err-At-clause-some c =
-    let stopped = rw (c.in_ok-sheet.ensures, c.in-Err-At.field-0-is) at c.in-Err-At.ensures.err in
-    stops_there _ _ _ _ _ _ _ c.place_count.ensures.some c.entry-entry.ensures.no_more c.entry-entry.ensures.no_less stopped
+    let stopped = rw (c.in_ok-state_table.ensures, c.in-Err-At.field-0-is) at c.in-Err-At.ensures.err in
+    stops_there _ _ _ _ _ _ _ c.place_count.ensures.some c.entry-entry.ensures.implied c.entry-entry.ensures.no_less stopped
 
 pub new-requires : goal.new-requires
 new-requires c = c.place_count.ensures.some
 
-pub settle-requires : goal.settle-requires
-settle-requires c = rw c.in_ok-sheet.ensures (spanned _ _ _ _ c.place_count.ensures.all (first_count _ _))
+pub sweep_to_fixpoint-requires : goal.sweep_to_fixpoint-requires
+sweep_to_fixpoint-requires c = rw c.in_ok-state_table.ensures (spanned _ _ _ _ c.place_count.ensures.all (first_count _ _))

@@ -1,15 +1,15 @@
 -- The strongest typing is a typing, its prices pay for what is declared, and the tables keep frames within 256 and entries within 1,024.
 use Rattle.std.proofs.Common.{◌∙◌, sym, subst}
 use Rattle.aom_image.specs.Image.{Image}
-use Rattle.aom_rules.specs.Typing.{Typing}
-use Rattle.aom_typings.specs.Strongest.{IsStrongest}
-use Rattle.aom_typings.specs.Depths.{DepthsWithin}
-use Rattle.aom_typings.specs.Heights.{HeightsWithin}
-use Rattle.aom_budget.proofs.TypingsLemmas.{all_high, all_within}
-use Rattle.aom_typings.specs.Dispatches.{IsAffordable}
-use Rattle.aom_typings.specs.Prices.{Prices}
+use Rattle.aom_typing_rules.specs.Typing.{Typing}
+use Rattle.aom_static_bounds.specs.Strongest.{IsStrongest}
+use Rattle.aom_static_bounds.specs.Depths.{DepthsWithin}
+use Rattle.aom_static_bounds.specs.Heights.{HeightsWithin}
+use Rattle.aom_budget.proofs.StaticBoundsLemmas.{all_high, all_within}
+use Rattle.aom_static_bounds.specs.Dispatches.{IsAffordable}
+use Rattle.aom_static_bounds.specs.Prices.{Prices}
 use Rattle.aom_image.specs.WellFormed.{WellFormed}
-use Rattle.aom_classes.specs.Linked.{IsLinked}
+use Rattle.aom_link_conditions.specs.Linked.{IsLinked}
 use Rattle.aom_budget.specs.Budgets.{CostsWithin}
 use Rattle.aom_budget.proofs.Budgeting.{affordable}
 use Rattle.aom_budget.proofs.accepted.Accepted.facts.Goals as goal

@@ -1,6 +1,6 @@
 -- Each table is raised by what counts for it, and stays otherwise.
 use Rattle.std.proofs.Common.{arith, refl}
-use Rattle.aom_budget.proofs.TypingsLemmas.{method_within}
+use Rattle.aom_budget.proofs.StaticBoundsLemmas.{method_within}
 use Rattle.aom_budget.proofs.Found.{called_now, cancelled_low, cancelled_still, destroyed_low, destroyed_still, destructs_not, is_set, set_size}
 use Rattle.aom_budget.proofs.costs.Costs.set.Goals as goal
 

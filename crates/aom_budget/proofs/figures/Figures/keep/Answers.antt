@@ -4,9 +4,9 @@ use Rattle.std.proofs.lemmas.Result.{err_from_is_err_and}
 use Rattle.aom_image.specs.Image.{Image}
 use Rattle.aom_image.specs.WellFormed.{WellFormed}
 use Rattle.aom_image.specs.declared.image.Header.{Header}
-use Rattle.aom_classes.specs.Linked.{IsLinked}
-use Rattle.aom_budget.specs.Figures.{IsWithin, TellsFirst, main_by}
-use Rattle.aom_budget.specs.declared.fault.Payer.TheVariants.{Main}
+use Rattle.aom_link_conditions.specs.Linked.{IsLinked}
+use Rattle.aom_budget.specs.Figures.{IsWithin, ReportsFirst, main_by}
+use Rattle.aom_budget.specs.declared.fault.BudgetOwner.TheVariants.{Main}
 use Rattle.aom_budget.proofs.Budgeting.{budgets_within, main_over, main_within, refuses_class, refuses_main}
 use Rattle.aom_budget.proofs.figures.Figures.keep.Goals as goal
 
@@ -40,7 +40,7 @@ returns-in_err-keep_classes-clause-err c =
     let k = known_of _ _ _ _ _ _ c.image.ensures c.linked-linked.ensures c.facts.ensures.linked c.header.ensures.well_formed
     c.header.ensures.value c.main_price.ensures in
     let main : IsWithin c.args.checked.now c.args.self.now.prices Main = main_within _ _ _ _ k.declares k.costs c.in_ok-within.ensures.ok in
-    let first : TellsFirst c.args.checked.now c.args.self.now.prices c.in_err-keep_classes.field-0.0 =
+    let first : ReportsFirst c.args.checked.now c.args.self.now.prices c.in_err-keep_classes.field-0.0 =
     rw c.linked-linked.ensures at c.in_err-keep_classes.ensures.err in
     rw (error.1, error.2) (refuses_class _ _ k.formed k.linked c.requires.priced _ main first)
 

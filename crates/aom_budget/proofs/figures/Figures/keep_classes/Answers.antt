@@ -5,8 +5,8 @@ use Rattle.aom_image.specs.Image.{Image}
 use Rattle.aom_image.specs.Views.{class_at}
 use Rattle.aom_image.specs.declared.class.ClassDecl.{ClassDecl}
 use Rattle.aom_budget.specs.Figures.{ClassesWithin, IsWithin}
-use Rattle.aom_budget.specs.declared.fault.Payer.TheVariants.{Class}
-use Rattle.aom_budget.proofs.Budgeting.{class_there, classes_more, tells_first, within_none, within_some}
+use Rattle.aom_budget.specs.declared.fault.BudgetOwner.TheVariants.{Class}
+use Rattle.aom_budget.proofs.Budgeting.{class_there, classes_more, reports_first, within_none, within_some}
 use Rattle.aom_budget.proofs.figures.Figures.keep_classes.Goals.{in-Some+in_ok-within, in_default}
 use Rattle.aom_budget.proofs.figures.Figures.keep_classes.Goals as goal
 
@@ -20,8 +20,8 @@ pub returns-in_err-within-clause-err : goal.returns-in_err-within-clause-err
 returns-in_err-within-clause-err c =
     let error = err_from_is_err_and c.from_residual.result c.from_residual.ensures.1 in
     let earlier : ClassesWithin c.args.linked.now c.args.self.now.prices c.class_number-class.result = rw c.class_number-class.ensures c.loop-index.invariant in
-    let told = c.in_err-within.ensures.err in
-    rw (error.1, error.2) (tells_first _ _ _ _ c.class.ensures _ _ _ earlier (sym c.budget_of.ensures ∙ c.in-Some.is) c.class_price-price.ensures told.0 told.1)
+    let reported = c.in_err-within.ensures.err in
+    rw (error.1, error.2) (reports_first _ _ _ _ c.class.ensures _ _ _ earlier (sym c.budget_of.ensures ∙ c.in-Some.is) c.class_price-price.ensures reported.0 reported.1)
 
 pub loop-index-preserved : goal.loop-index-preserved
 loop-index-preserved c =

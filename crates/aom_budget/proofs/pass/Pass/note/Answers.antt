@@ -1,7 +1,7 @@
 -- A place is set, or is not reached.
 use Rattle.std.proofs.Common.{ap, ◌∙◌}
 use Rattle.aom_roles.specs.Tables.{at}
-use Rattle.aom_budget.proofs.ShapeLemmas.{at_set_here, at_set_other}
+use Rattle.aom_budget.proofs.AbstractStateLemmas.{at_set_here, at_set_other}
 use Rattle.aom_budget.proofs.pass.Pass.note.Goals as goal
 
 pub returns-then-is_some-clause-here : goal.returns-then-is_some-clause-here

@@ -1,10 +1,10 @@
 -- A next, a loop or a plain instruction.
 use Rattle.std.proofs.Common.{◌≡◌, ◌≢◌, ◌<◌, ◌-◌, ℕ, List, length, None, ap, ◌∙◌, subst, sym, arith}
-use Rattle.aom_classes.specs.Bodies.{Body}
-use Rattle.aom_budget.proofs.ClassesLemmas.{linked_is_looped}
+use Rattle.aom_link_conditions.specs.Bodies.{Body}
+use Rattle.aom_budget.proofs.LinkConditionsLemmas.{linked_is_looped}
 use Rattle.aom_roles.specs.Tables.{at}
-use Rattle.aom_budget.proofs.ShapeLemmas.{at_within}
-use Rattle.aom_budget.proofs.TypingsLemmas.{stands_so}
+use Rattle.aom_budget.proofs.AbstractStateLemmas.{at_within}
+use Rattle.aom_budget.proofs.StaticBoundsLemmas.{stands_so}
 use Rattle.aom_budget.proofs.Visiting.{instr_there, next_closes, no_loop, no_next, visit_plain, visit_loop, visit_next}
 use Rattle.aom_budget.proofs.pass.Pass.visit.Goals as goal
 

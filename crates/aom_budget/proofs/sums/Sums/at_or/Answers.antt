@@ -1,7 +1,7 @@
 -- What is read of the list, or that past its end.
 use Rattle.std.proofs.Common.{◌≡◌, ◌<◌, ◌≤◌, length, rules, sym, ◌∙◌}
 use Rattle.aom_roles.specs.Tables.{at}
-use Rattle.aom_budget.proofs.ShapeLemmas.{at_past}
+use Rattle.aom_budget.proofs.AbstractStateLemmas.{at_past}
 use Rattle.aom_budget.proofs.Keeping.{at_either, read_past}
 use Rattle.aom_budget.proofs.sums.Sums.at_or.Goals as goal
 

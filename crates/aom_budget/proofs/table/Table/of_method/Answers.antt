@@ -1,7 +1,7 @@
 -- What is read of the list, or 0 past its end.
 use Rattle.std.proofs.Common.{◌≡◌, ◌<◌, ◌≤◌, length, rules, sym}
-use Rattle.aom_budget.proofs.ShapeLemmas.{at_past}
-use Rattle.aom_budget.proofs.Filling.{read_at}
+use Rattle.aom_budget.proofs.AbstractStateLemmas.{at_past}
+use Rattle.aom_budget.proofs.FieldState.{read_at}
 use Rattle.aom_budget.proofs.table.Table.of_method.Goals as goal
 
 pub returns-then-index-len : goal.returns-then-index-len

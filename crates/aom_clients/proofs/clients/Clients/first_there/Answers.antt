@@ -1,6 +1,6 @@
 use Rattle.std.proofs.Common.{◌≡◌, ◌<◌, ◌∙◌, IfSome, ap, arith, false, length, subst, sym, true}
 use Rattle.aom_clients.specs.Lists.{IsOnce}
-use Rattle.aom_clients.specs.Clients.{State, client_at, first_there, sessions_at}
+use Rattle.aom_clients.specs.Clients.{ClientsState, client_at, first_there, sessions_at}
 use Rattle.aom_clients.specs.Table.{has_cell}
 use Rattle.aom_clients.proofs.Looking.{after-in, first-in, found, from, from-first, from-next, looked}
 use Rattle.aom_clients.proofs.Steps.{has-there}
@@ -20,7 +20,7 @@ pub returns-then-has_cell-clause-value : goal.returns-then-has_cell-clause-value
 returns-then-has_cell-clause-value c =
     let s = c.args.self.now in
     let xs = sessions_at s c.args.server in
-    let once : IsOnce xs = subst (λ (s : State). IsOnce (sessions_at s c.args.server)) c.self.view_is (c.in_order.ensures.once c.args.server) in
+    let once : IsOnce xs = subst (λ (s : ClientsState). IsOnce (sessions_at s c.args.server)) c.self.view_is (c.in_order.ensures.once c.args.server) in
     let some : has_cell (client_at s c.in-Some.client) ≡ true = ap has_cell (sym c.client.ensures.value) ∙ sym c.has_cell.ensures ∙ c.if-has_cell.true in
     sym (found s c.in-Some.client xs once (c.loop-next.invariant.inside c.in-Some.client c.in-Some.is) some)
     ∙ ap (λ o. first_there s (from o xs)) (sym c.in-Some.is) ∙ c.loop-next.invariant.rest
@@ -28,7 +28,7 @@ returns-then-has_cell-clause-value c =
 pub loop-next-smaller : goal.loop-next-smaller
 loop-next-smaller c =
     let xs = sessions_at c.args.self.now c.args.server in
-    let once : IsOnce xs = subst (λ (s : State). IsOnce (sessions_at s c.args.server)) c.self.view_is (c.in_order.ensures.once c.args.server) in
+    let once : IsOnce xs = subst (λ (s : ClientsState). IsOnce (sessions_at s c.args.server)) c.self.view_is (c.in_order.ensures.once c.args.server) in
     let next = from-next c.in-Some.client xs once (c.loop-next.invariant.inside c.in-Some.client c.in-Some.is) in
     omega (arith, ap (λ o. length (from o xs)) c.next_session-next.ensures.value, ap (λ o. length (from o xs)) c.in-Some.is, ap length next)
 
@@ -36,7 +36,7 @@ pub loop-next-preserved : goal.loop-next-preserved
 loop-next-preserved c =
     let s = c.args.self.now in
     let xs = sessions_at s c.args.server in
-    let once : IsOnce xs = subst (λ (s : State). IsOnce (sessions_at s c.args.server)) c.self.view_is (c.in_order.ensures.once c.args.server) in
+    let once : IsOnce xs = subst (λ (s : ClientsState). IsOnce (sessions_at s c.args.server)) c.self.view_is (c.in_order.ensures.once c.args.server) in
     let none : has_cell (client_at s c.in-Some.client) ≡ false = ap has_cell (sym c.client.ensures.value) ∙ sym c.has_cell.ensures ∙ c.if-has_cell.false in
     let next = c.next_session-next.ensures.value in
     record {

@@ -2,7 +2,7 @@ use Rattle.std.proofs.Common.{◌≡◌, ◌<◌, length, refl, sym, ap, ◌∙�
 use Rattle.std.specs.Prelude.{slice_set, slice_index_or}
 use Rattle.std.proofs.lemmas.List.{get_or_read}
 use Rattle.aom_clients.specs.declared.client.Client.TheVariants.{Unconnected}
-use Rattle.aom_clients.specs.Table.{at_gone}
+use Rattle.aom_clients.specs.Table.{after_server_destroyed}
 use Rattle.aom_clients.proofs.Same.{kept-as, state-as}
 use Rattle.aom_clients.proofs.clients.Clients.session_gone.Goals as goal
 use Rattle.aom_clients.specs.Clients.{session_gone}
@@ -61,8 +61,8 @@ invariant_of-self-2 c =
           c.take_first.ensures.rest c.in_ok-client.ensures.free,
       c.self.invariant.sized.clients_long,
     ) in
-    let clients : slice_set cl d c.at_gone.result ≡ slice_set cl d (at_gone (slice_index_or cl d Unconnected)) =
-    ap (slice_set cl d) (c.at_gone.ensures ∙ ap at_gone (get_or_read cl d c.index.result.now small c.index.ensures Unconnected)) in
+    let clients : slice_set cl d c.after_server_destroyed.result ≡ slice_set cl d (after_server_destroyed (slice_index_or cl d Unconnected)) =
+    ap (slice_set cl d) (c.after_server_destroyed.ensures ∙ ap after_server_destroyed (get_or_read cl d c.index.result.now small c.index.ensures Unconnected)) in
     kept-as _ _ _ _ _ _ _ _ _ _ _ _ clients refl refl refl c.take_first.ensures.rest c.release.ensures
     (session-gone-kept _ _ _ _ _ _ c.self.invariant _
     c.self.view_is c.args.server _ c.requires.server c.requires.empty c.in_ok-client.ensures.first _ c.take_first.ensures.rest c.in_ok-client.ensures.free)
@@ -77,8 +77,8 @@ returns-clause-after c =
           c.take_first.ensures.rest c.in_ok-client.ensures.free,
       c.self.invariant.sized.clients_long,
     ) in
-    let clients : slice_set cl d c.at_gone.result ≡ slice_set cl d (at_gone (slice_index_or cl d Unconnected)) =
-    ap (slice_set cl d) (c.at_gone.ensures ∙ ap at_gone (get_or_read cl d c.index.result.now small c.index.ensures Unconnected)) in
+    let clients : slice_set cl d c.after_server_destroyed.result ≡ slice_set cl d (after_server_destroyed (slice_index_or cl d Unconnected)) =
+    ap (slice_set cl d) (c.after_server_destroyed.ensures ∙ ap after_server_destroyed (get_or_read cl d c.index.result.now small c.index.ensures Unconnected)) in
     state-as _ _ _ _ _ c.self.inside.queues _ c.take_first.new.self _ c.release.new.sent clients refl refl c.take_first.ensures.rest c.release.ensures
     ∙ session-gone-seen _ _ _ _ _ _ c.self.invariant
     _ c.self.view_is c.args.server _ c.requires.server c.requires.empty c.in_ok-client.ensures.first _ c.take_first.ensures.rest c.in_ok-client.ensures.free

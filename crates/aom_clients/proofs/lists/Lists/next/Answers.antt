@@ -10,5 +10,5 @@ node_after-requires c =
 pub returns : goal.returns
 returns c =
     let s = c.self.inside in
-    let nodes : c.len.result ≡ length s.homes.items = omega (arith, c.len.ensures, s.homes.ok.0) in
+    let nodes : c.len.result ≡ length s.owner_lists.items = omega (arith, c.len.ensures, s.owner_lists.ok.0) in
     cc (c.node_after.ensures, c.deref.ensures.value, nodes, next-is _ _ _ _ _ c.self.view_is c.self.invariant c.args.list c.args.node c.requires)

@@ -5,7 +5,7 @@ use Rattle.aom_clients.proofs.lists.Lists.push_last.Goals as goal
 pub index_mut-requires : goal.index_mut-requires
 index_mut-requires c =
     let s = c.self.inside in
-    let end : c.len.result + c.args.list ≡ length s.homes.items + c.args.list = omega (arith, c.len.ensures, s.homes.ok.0) in
+    let end : c.len.result + c.args.list ≡ length s.owner_lists.items + c.args.list = omega (arith, c.len.ensures, s.owner_lists.ok.0) in
     omega (
       arith,
       s.after.ok.0,
@@ -16,7 +16,7 @@ index_mut-requires c =
 pub overflow_add-index_mut : goal.overflow_add-index_mut
 overflow_add-index_mut c =
     let s = c.self.inside in
-    let end : c.len.result + c.args.list ≡ length s.homes.items + c.args.list = omega (arith, c.len.ensures, s.homes.ok.0) in
+    let end : c.len.result + c.args.list ≡ length s.owner_lists.items + c.args.list = omega (arith, c.len.ensures, s.owner_lists.ok.0) in
     let made = pushed _ _ _ _ _ c.self.view_is c.self.invariant c.args.list c.args.node c.index-last.result.now (c.len.result + c.args.list)
     c.index_mut-6.result.now c.requires.list c.requires.node c.requires.free c.index-last.ensures end c.index_mut-6.ensures.value in
     omega (arith, made.fits)
@@ -24,13 +24,13 @@ overflow_add-index_mut c =
 pub invariant_of-self : goal.invariant_of-self
 invariant_of-self c =
     let s = c.self.inside in
-    let end : c.len.result + c.args.list ≡ length s.homes.items + c.args.list = omega (arith, c.len.ensures, s.homes.ok.0) in
+    let end : c.len.result + c.args.list ≡ length s.owner_lists.items + c.args.list = omega (arith, c.len.ensures, s.owner_lists.ok.0) in
     (pushed _ _ _ _ _ c.self.view_is c.self.invariant c.args.list c.args.node c.index-last.result.now (c.len.result + c.args.list) c.index_mut-6.result.now
-    c.requires.list c.requires.node c.requires.free c.index-last.ensures end c.index_mut-6.ensures.value).ringed
+    c.requires.list c.requires.node c.requires.free c.index-last.ensures end c.index_mut-6.ensures.value).circular
 
 pub returns : goal.returns
 returns c =
     let s = c.self.inside in
-    let end : c.len.result + c.args.list ≡ length s.homes.items + c.args.list = omega (arith, c.len.ensures, s.homes.ok.0) in
+    let end : c.len.result + c.args.list ≡ length s.owner_lists.items + c.args.list = omega (arith, c.len.ensures, s.owner_lists.ok.0) in
     (pushed _ _ _ _ _ c.self.view_is c.self.invariant c.args.list c.args.node c.index-last.result.now (c.len.result + c.args.list) c.index_mut-6.result.now
     c.requires.list c.requires.node c.requires.free c.index-last.ensures end c.index_mut-6.ensures.value).seen

@@ -1,6 +1,6 @@
 use Rattle.std.proofs.Common.{refl, sym, subst, ◌∙◌}
 use Rattle.aom_clients.specs.Lists.{Table, IsFree}
-use Rattle.aom_clients.proofs.Rings.{without-one, without-none, free-without}
+use Rattle.aom_clients.proofs.CircularLists.{without-one, without-none, free-without}
 use Rattle.aom_clients.proofs.lists.Lists.remove.Goals as goal
 
 pub returns-in-Some-clause-removed : goal.returns-in-Some-clause-removed

@@ -1,6 +1,6 @@
 use Rattle.std.proofs.Common.{◌≡◌, Some, sym, subst, ap, ◌∙◌}
 use Rattle.aom_clients.specs.Lists.{Table, with_list, list_at, first_of, IsFree}
-use Rattle.aom_clients.proofs.Rings.{without-first, first-in, without-one, free-without}
+use Rattle.aom_clients.proofs.CircularLists.{without-first, first-in, without-one, free-without}
 use Rattle.aom_clients.proofs.lists.Lists.take_first.Goals as goal
 
 pub unlink-requires : goal.unlink-requires

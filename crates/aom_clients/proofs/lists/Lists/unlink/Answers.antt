@@ -17,7 +17,7 @@ index_mut-requires-2 c =
     omega (arith, (neighbours _ _ _ _ _ c.self.view_is c.self.invariant c.args.list c.args.node _ _ c.requires c.index-last.ensures c.index-next.ensures).1, c.self.inside.before.ok.0)
 
 pub index_mut-requires-3 : goal.index_mut-requires-3
-index_mut-requires-3 c = omega (arith, (node-has _ _ _ _ _ c.self.view_is c.self.invariant c.args.list c.args.node c.requires).0, c.self.inside.homes.ok.0)
+index_mut-requires-3 c = omega (arith, (node-has _ _ _ _ _ c.self.view_is c.self.invariant c.args.list c.args.node c.requires).0, c.self.inside.owner_lists.ok.0)
 
 pub index_mut-requires-4 : goal.index_mut-requires-4
 index_mut-requires-4 c = omega (arith, (node-has _ _ _ _ _ c.self.view_is c.self.invariant c.args.list c.args.node c.requires).3, c.self.inside.counts.ok.0)
@@ -32,7 +32,7 @@ overflow_sub-index_mut c = omega (
 pub invariant_of-self : goal.invariant_of-self
 invariant_of-self c =
     (unlinked _ _ _ _ _ c.self.view_is c.self.invariant c.args.list c.args.node c.index-last.result.now c.index-next.result.now c.index_mut-4.result.now
-    c.requires c.index-last.ensures c.index-next.ensures c.index_mut-4.ensures.value).ringed
+    c.requires c.index-last.ensures c.index-next.ensures c.index_mut-4.ensures.value).circular
 
 pub returns : goal.returns
 returns c =

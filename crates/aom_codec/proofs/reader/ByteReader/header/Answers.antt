@@ -12,6 +12,6 @@ returns-clause-read c = rw (
   c.in_ok-natives.ensures.read,
   c.in_ok-fixed_byte.ensures,
   c.in_ok-root.ensures,
-  c.in_ok-fixed_pair.ensures,
+  c.in_ok-expect_u16.ensures,
   c.in_ok-budget.ensures,
 ) refl

@@ -4,5 +4,5 @@ use Rattle.aom_codec.proofs.reader.ByteReader.opening.Goals as goal
 
 pub returns-clause-read : goal.returns-clause-read
 returns-clause-read c =
-    rw (c.in_ok-fixed_quad.ensures, c.in_ok-version.ensures, c.in_ok-classes.ensures.read, c.in_ok-methods.ensures.read, c.in_ok-header.ensures.read)
+    rw (c.in_ok-expect_u32.ensures, c.in_ok-version.ensures, c.in_ok-classes.ensures.read, c.in_ok-methods.ensures.read, c.in_ok-header.ensures.read)
     (rw (← c.in_ok-header.ensures.version) refl)

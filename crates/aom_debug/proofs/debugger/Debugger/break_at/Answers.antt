@@ -1,15 +1,15 @@
 -- A place that the numbers name is set, and where they name none nothing is.
 use Rattle.std.proofs.lemmas.Result.{err_from_is_err_and}
-use Rattle.aom_debug_words.specs.Marks.{is_set, with_spot}
-use Rattle.aom_debug.proofs.DebugMovesLemmas.{keeps_all}
-use Rattle.aom_debug.proofs.Declining.{marked_mover, marked_named, marks_none}
+use Rattle.aom_debug_protocol.specs.Marks.{is_set, with_spot}
+use Rattle.aom_debug.proofs.DebugSteppingLemmas.{keeps_all}
+use Rattle.aom_debug.proofs.Declining.{marked_runner, marked_named, marks_none}
 use Rattle.aom_debug.proofs.debugger.Debugger.break_at.Goals as goal
 
 pub returns-in_err-spot-clause-agree : goal.returns-in_err-spot-clause-agree
 returns-in_err-spot-clause-agree g c = c.requires.agree
 
 pub returns-in_err-spot-clause-keeps : goal.returns-in_err-spot-clause-keeps
-returns-in_err-spot-clause-keeps g c = keeps_all c.args.self.now.mover c.requires.ready
+returns-in_err-spot-clause-keeps g c = keeps_all c.args.self.now.runner c.requires.ready
 
 pub returns-in_err-spot-clause-answer : goal.returns-in_err-spot-clause-answer
 returns-in_err-spot-clause-answer g c =
@@ -18,11 +18,11 @@ returns-in_err-spot-clause-answer g c =
 
 pub returns-clause-agree : goal.returns-clause-agree
 returns-clause-agree g c =
-    rw (marked_mover is_set with_spot c.in_ok-spot.spot c.args.self.now c.set.new.self _ c.set.result c.set.ensures) c.requires.agree
+    rw (marked_runner is_set with_spot c.in_ok-spot.spot c.args.self.now c.set.new.self _ c.set.result c.set.ensures) c.requires.agree
 
 pub returns-clause-keeps : goal.returns-clause-keeps
-returns-clause-keeps g c = rw (marked_mover is_set with_spot c.in_ok-spot.spot c.args.self.now c.set.new.self _ c.set.result c.set.ensures)
-    (keeps_all c.args.self.now.mover c.requires.ready)
+returns-clause-keeps g c = rw (marked_runner is_set with_spot c.in_ok-spot.spot c.args.self.now c.set.new.self _ c.set.result c.set.ensures)
+    (keeps_all c.args.self.now.runner c.requires.ready)
 
 pub returns-clause-answer : goal.returns-clause-answer
 returns-clause-answer g c =

@@ -1,22 +1,22 @@
 -- What the called one keeps, and how it answers.
 use Rattle.std.proofs.Common.{◌∙◌, Err, ap, refl, subst, sym}
-use Rattle.aom_debug.specs.Obeying.{Heeds}
-use Rattle.aom_debug.proofs.DebugMovesLemmas.{keeps_all}
-use Rattle.aom_debug_names.specs.Commands.{command_by}
-use Rattle.aom_debug.proofs.Declining.{heeds_failed, passes_on, says_no_end}
+use Rattle.aom_debug.specs.Executing.{ExecutesLine}
+use Rattle.aom_debug.proofs.DebugSteppingLemmas.{keeps_all}
+use Rattle.aom_debug_symbols.specs.Commands.{command_by}
+use Rattle.aom_debug.proofs.Declining.{executes_line_failed, passes_on, says_no_end}
 use Rattle.aom_debug.proofs.debugger.Debugger.command.Goals as goal
 
-pub obey-requires-clause-agree : goal.obey-requires-clause-agree
-obey-requires-clause-agree g c = c.requires.agree
+pub execute-requires-clause-agree : goal.execute-requires-clause-agree
+execute-requires-clause-agree g c = c.requires.agree
 
-pub obey-requires-clause-ready : goal.obey-requires-clause-ready
-obey-requires-clause-ready g c = c.requires.ready
+pub execute-requires-clause-ready : goal.execute-requires-clause-ready
+execute-requires-clause-ready g c = c.requires.ready
 
 pub returns-in-Ok-Some-clause-agree : goal.returns-in-Ok-Some-clause-agree
-returns-in-Ok-Some-clause-agree g c = c.obey.ensures.agree
+returns-in-Ok-Some-clause-agree g c = c.execute.ensures.agree
 
 pub returns-in-Ok-Some-clause-keeps : goal.returns-in-Ok-Some-clause-keeps
-returns-in-Ok-Some-clause-keeps g c = c.obey.ensures.keeps
+returns-in-Ok-Some-clause-keeps g c = c.execute.ensures.keeps
 
 pub returns-then-self-clause-agree : goal.returns-then-self-clause-agree
 returns-then-self-clause-agree g c = c.requires.agree
@@ -28,21 +28,21 @@ pub returns-in-Err-clause-agree : goal.returns-in-Err-clause-agree
 returns-in-Err-clause-agree g c = c.requires.agree
 
 pub returns-then-self-clause-keeps : goal.returns-then-self-clause-keeps
-returns-then-self-clause-keeps g c = keeps_all c.args.self.now.mover c.requires.ready
+returns-then-self-clause-keeps g c = keeps_all c.args.self.now.runner c.requires.ready
 
 pub returns-in-Ok-None-clause-keeps : goal.returns-in-Ok-None-clause-keeps
-returns-in-Ok-None-clause-keeps g c = keeps_all c.args.self.now.mover c.requires.ready
+returns-in-Ok-None-clause-keeps g c = keeps_all c.args.self.now.runner c.requires.ready
 
 pub returns-in-Err-clause-keeps : goal.returns-in-Err-clause-keeps
-returns-in-Err-clause-keeps g c = keeps_all c.args.self.now.mover c.requires.ready
+returns-in-Err-clause-keeps g c = keeps_all c.args.self.now.runner c.requires.ready
 
 pub returns-in-Ok-Some-clause-answer : goal.returns-in-Ok-Some-clause-answer
-returns-in-Ok-Some-clause-answer g c = subst (λ x. Heeds x c.args.self.now c.obey.new.self (record
-    { before = g.W.Sink.out c.args.out.now; now = g.W.Sink.out c.obey.new.out; failed = g.W.Sink.failed c.obey.new.out }) c.obey.result) c.in-Ok-Some.ensures
-    (rw c.in-Ok-Some.field-0-is c.obey.ensures.answer)
+returns-in-Ok-Some-clause-answer g c = subst (λ x. ExecutesLine x c.args.self.now c.execute.new.self (record
+    { before = g.W.Sink.out c.args.out.now; now = g.W.Sink.out c.execute.new.out; failed = g.W.Sink.failed c.execute.new.out }) c.execute.result) c.in-Ok-Some.ensures
+    (rw c.in-Ok-Some.field-0-is c.execute.ensures.answer)
 
 pub returns-then-self-clause-answer : goal.returns-then-self-clause-answer
-returns-then-self-clause-answer g c = heeds_failed c.args.self.now _ _ c.if-self.true (command_by c.args.self.now.names c.args.line.now)
+returns-then-self-clause-answer g c = executes_line_failed c.args.self.now _ _ c.if-self.true (command_by c.args.self.now.names c.args.line.now)
 
 pub returns-in-Ok-None-clause-answer : goal.returns-in-Ok-None-clause-answer
 returns-in-Ok-None-clause-answer g c =

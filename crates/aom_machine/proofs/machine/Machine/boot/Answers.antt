@@ -10,14 +10,14 @@ invariant_of-result c =
     let booted = subst (λ p. Booted p c.in_ok-parts.parts) c.linked-linked.ensures c.in_ok-parts.ensures in (
       boot_state c.args.accepted.now,
       boots c.args.accepted.now c.in_ok-parts.parts c.facts.ensures.linked c.facts.ensures.affordable c.facts.ensures.depths c.facts.ensures.heights
-          c.boot_keeps.ensures c.step_keeps.ensures c.calm_keeps.ensures c.linked_is_wired.ensures c.boot_within.ensures c.moves_pay.ensures booted,
+          c.boot_keeps.ensures c.step_keeps.ensures c.quiet_preserved.ensures c.linked_is_wired.ensures c.boot_within.ensures c.moves_pay.ensures booted,
     )
 
 pub returns-clause-stands : goal.returns-clause-stands
 returns-clause-stands c =
     let booted = subst (λ p. Booted p c.in_ok-parts.parts) c.linked-linked.ensures c.in_ok-parts.ensures in
     boots c.args.accepted.now c.in_ok-parts.parts c.facts.ensures.linked c.facts.ensures.affordable c.facts.ensures.depths c.facts.ensures.heights
-    c.boot_keeps.ensures c.step_keeps.ensures c.calm_keeps.ensures c.linked_is_wired.ensures c.boot_within.ensures c.moves_pay.ensures booted
+    c.boot_keeps.ensures c.step_keeps.ensures c.quiet_preserved.ensures c.linked_is_wired.ensures c.boot_within.ensures c.moves_pay.ensures booted
 
 pub returns-clause-agrees : goal.returns-clause-agrees
 returns-clause-agrees c = agrees_in_all _

@@ -1,6 +1,6 @@
 -- The timer that is due first completes the request of its object.
 use Rattle.std.proofs.Common.{subst}
-use Rattle.aom_machine_state.specs.Stands.{Machine}
+use Rattle.aom_machine_state.specs.Stands.{MachineModel}
 use Rattle.aom_machine.specs.Turns.{Completed}
 use Rattle.aom_machine.proofs.Turning.{completed_again}
 use Rattle.aom_machine.proofs.Agreeing.{agrees_in_all}
@@ -18,7 +18,7 @@ invariant_of-self c =
 pub returns-clause-completed : goal.returns-clause-completed
 returns-clause-completed c =
     let p = c.self.inside.accepted.now in
-    subst (λ (m : Machine). Completed m c.due.result (record { image = p; parts = c.due.new.parts })) c.self.view_is (c.due.ensures.completed p)
+    subst (λ (m : MachineModel). Completed m c.due.result (record { image = p; parts = c.due.new.parts })) c.self.view_is (c.due.ensures.completed p)
 
 pub returns-clause-agrees : goal.returns-clause-agrees
 returns-clause-agrees c = agrees_in_all _

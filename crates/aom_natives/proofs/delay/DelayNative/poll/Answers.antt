@@ -27,6 +27,6 @@ returns-in-None-clause-answer c =
 
 pub returns-in-None-clause-owed : goal.returns-in-None-clause-owed
 returns-in-None-clause-owed c =
-    let same : length c.lower_all.new.entries ≡ length c.self.inside.entries.items = search rules in
-    let all = refilled _ _ same ∙ c.lower_all.ensures ∙ ap (map lowered) (c.as_mut_slice.ensures.value ∙ c.self.view_is) in
+    let same : length c.decrement_all.new.entries ≡ length c.self.inside.entries.items = search rules in
+    let all = refilled _ _ same ∙ c.decrement_all.ensures ∙ ap (map lowered) (c.as_mut_slice.ensures.value ∙ c.self.view_is) in
     ap ids_in all ∙ ids_lowered c.args.self.now

@@ -1,9 +1,9 @@
 use Rattle.std.proofs.Common.{◌≡◌, ◌≢◌, ◌≤◌, take, length, sym, subst, ap, ◌∙◌, arith}
 use Rattle.std.specs.Prelude.{insert, AllPairs, vec_capacity}
 use Rattle.aom_scheduler.specs.Places.{Knows, IsIndexed}
-use Rattle.aom_scheduler.specs.Roster.{before}
+use Rattle.aom_scheduler.specs.PriorityList.{before}
 use Rattle.aom_scheduler.specs.Order.{placed}
-use Rattle.aom_scheduler.proofs.Places.{insertion-from, indexed-by_insertion, when_ok, written, same_roster, id_of}
+use Rattle.aom_scheduler.proofs.Places.{insertion-from, indexed-by_insertion, when_ok, written, same_priority_list, id_of}
 use Rattle.aom_scheduler.proofs.order.Order.insert.Goals as goal
 
 pub unwrap-requires : goal.unwrap-requires
@@ -59,5 +59,5 @@ returns c =
     let items = when_ok _ c.unwrap.ensures c.insert.ensures.items in
     let over = written c.self.inside.places.len c.self.inside.places.items c.renumber.new.places
     (omega (arith, c.deref_mut.ensures.len, c.renumber.ensures.length)) in
-    same_roster _ _ _ _ (items ∙ made.is ∙ ap (λ r. placed before c.args.entry r.entries) c.self.view_is)
+    same_priority_list _ _ _ _ (items ∙ made.is ∙ ap (λ r. placed before c.args.entry r.entries) c.self.view_is)
     (ap length over ∙ c.renumber.ensures.length ∙ ap length c.deref_mut.ensures.value ∙ ap (λ r. r.limit) c.self.view_is)

@@ -1,8 +1,8 @@
 use Rattle.std.proofs.Common.{sym, subst, ap, ◌∙◌, arith}
 use Rattle.aom_scheduler.specs.Places.{IsIndexed}
-use Rattle.aom_scheduler.specs.Roster.{marked}
+use Rattle.aom_scheduler.specs.PriorityList.{marked}
 use Rattle.aom_scheduler.proofs.Items.{at-within}
-use Rattle.aom_scheduler.proofs.Places.{stands-in, marked-in, indexed-mark, same_roster, id_of}
+use Rattle.aom_scheduler.proofs.Places.{stands-in, marked-in, indexed-mark, same_priority_list, id_of}
 use Rattle.aom_scheduler.proofs.order.Order.mark.Goals as goal
 
 pub index_mut-requires : goal.index_mut-requires
@@ -28,4 +28,4 @@ returns-in-Some c =
     let found = stands-in c.args.self.now entries _ c.args.id c.in-Some.place c.place.result c.self.view_is c.place.ensures c.in-Some.is in
     let is = marked-in entries c.args.id c.in-Some.place c.args.is_ready c.index_mut.result.now c.self.invariant.0.ordered.distinct found
     c.index_mut.ensures.value in
-    same_roster _ _ _ _ (is ∙ ap (λ r. marked c.args.id c.args.is_ready r.entries) c.self.view_is) (ap (λ r. r.limit) c.self.view_is)
+    same_priority_list _ _ _ _ (is ∙ ap (λ r. marked c.args.id c.args.is_ready r.entries) c.self.view_is) (ap (λ r. r.limit) c.self.view_is)

@@ -1,5 +1,5 @@
 use Rattle.std.proofs.Common.{refl, ap, ◌∙◌, sym, arith}
-use Rattle.aom_scheduler.specs.Roster.{ready_ids}
+use Rattle.aom_scheduler.specs.PriorityList.{ready_ids}
 use Rattle.aom_scheduler.proofs.Ready.{ready-placed}
 use Rattle.aom_scheduler.proofs.schedule.Schedule.insert.Goals as goal
 

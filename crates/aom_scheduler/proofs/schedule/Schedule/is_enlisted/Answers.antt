@@ -1,6 +1,6 @@
 use Rattle.std.proofs.Common.{ap, ◌∙◌}
 use Rattle.std.specs.Prelude.{is_some}
-use Rattle.aom_scheduler.specs.Roster.{place}
+use Rattle.aom_scheduler.specs.PriorityList.{place}
 use Rattle.aom_scheduler.proofs.schedule.Schedule.is_enlisted.Goals as goal
 
 pub returns : goal.returns

@@ -1,6 +1,6 @@
 use Rattle.std.proofs.Common.{◌≡◌, false, sym, subst, ap, ◌∙◌}
 use Rattle.std.specs.Prelude.{IfSome, IsNone, All, slice_get}
-use Rattle.aom_scheduler.specs.Roster.{first_ready, IsPick}
+use Rattle.aom_scheduler.specs.PriorityList.{first_ready, IsPick}
 use Rattle.aom_scheduler.proofs.Picks.{pick-first, front-is, none-ready}
 use Rattle.aom_scheduler.proofs.Ready.{first-is}
 use Rattle.aom_scheduler.proofs.schedule.Schedule.next_ready.Goals as goal

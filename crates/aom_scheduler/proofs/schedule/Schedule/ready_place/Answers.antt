@@ -1,6 +1,6 @@
 use Rattle.std.proofs.Common.{◌≤◌, ◌∙◌, length, pos, subst, sym, arith}
 use Rattle.aom_scheduler.specs.Ready.{IsReadyAt, IsWaitingAt}
-use Rattle.aom_scheduler.specs.Roster.{Roster, waiting}
+use Rattle.aom_scheduler.specs.PriorityList.{PriorityList, waiting}
 use Rattle.aom_scheduler.proofs.Items.{at-within, place-at}
 use Rattle.aom_scheduler.proofs.Places.{id_of}
 use Rattle.aom_scheduler.proofs.Ready.{ready-at, waiting-at}
@@ -13,7 +13,7 @@ is_ready-requires c = at-within id_of c.args.id c.self.inside.order.entries c.un
 pub ready_before-at-requires : goal.ready_before-at-requires
 ready_before-at-requires c =
     let there = place-at id_of c.args.id c.self.inside.order.entries c.unwrap-place.result (sym c.place.ensures ∙ c.unwrap-place.ensures) in
-    subst (λ (r : Roster). c.unwrap-place.result ≤ length r.entries) c.self.view_is (omega (arith, at-within id_of c.args.id _ c.unwrap-place.result there))
+    subst (λ (r : PriorityList). c.unwrap-place.result ≤ length r.entries) c.self.view_is (omega (arith, at-within id_of c.args.id _ c.unwrap-place.result there))
 
 pub returns-then-is_ready-clause-ready : goal.returns-then-is_ready-clause-ready
 returns-then-is_ready-clause-ready c = subst (λ s. IsReadyAt s c.args.id c.ready_before-at.result) c.self.view_is

@@ -1,8 +1,8 @@
 use Rattle.std.proofs.Common.{◌≡◌, false, sym, subst, ap, ◌∙◌, arith}
 use Rattle.std.specs.Prelude.{IsSome}
 use Rattle.aom_scheduler.specs.Order.{without}
-use Rattle.aom_scheduler.specs.Roster.{IsEnlisted, ready_ids, marked}
-use Rattle.aom_scheduler.proofs.Places.{id_of, marked-place, same_roster}
+use Rattle.aom_scheduler.specs.PriorityList.{IsEnlisted, ready_ids, marked}
+use Rattle.aom_scheduler.proofs.Places.{id_of, marked-place, same_priority_list}
 use Rattle.aom_scheduler.proofs.Ready.{ready-without, without-marked}
 use Rattle.aom_scheduler.proofs.schedule.Schedule.remove.Goals as goal
 
@@ -21,5 +21,5 @@ invariant_of-self c =
 pub returns : goal.returns
 returns c =
     let waits = c.self.view_is ∙ c.set_waiting.ensures in
-    c.remove.ensures ∙ same_roster _ _ _ _ (ap (λ r. without id_of c.args.id r.entries) waits ∙ without-marked c.args.id false c.args.self.now.entries)
+    c.remove.ensures ∙ same_priority_list _ _ _ _ (ap (λ r. without id_of c.args.id r.entries) waits ∙ without-marked c.args.id false c.args.self.now.entries)
     (ap (λ r. r.limit) waits)

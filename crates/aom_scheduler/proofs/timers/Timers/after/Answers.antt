@@ -3,7 +3,7 @@ use Rattle.std.specs.Prelude.{insert, slice_set}
 use Rattle.std.proofs.lemmas.List.{length-set}
 use Rattle.aom_scheduler.specs.Order.{placed}
 use Rattle.aom_scheduler.specs.Pending.{no_later, timer_of}
-use Rattle.aom_scheduler.specs.Dues.{IsTimed}
+use Rattle.aom_scheduler.specs.DueTimes.{IsTimed}
 use Rattle.aom_scheduler.proofs.Timing.{same_pending, ok_by_room, setting-from}
 use Rattle.aom_scheduler.proofs.timers.Timers.after.Goals as goal
 use Rattle.std.proofs.lemmas.Result.{IfOk-at_ok}
@@ -21,12 +21,12 @@ invariant_of-self c =
     let made = setting-from c.place_for-at.result t c.self.view_is c.self.invariant.0 c.requires.below c.requires.unset c.place_for-at.ensures.bound
     c.place_for-at.ensures.point in
     let items = IfOk-at_ok _ c.unwrap.ensures c.insert.ensures.items in
-    let dues = c.self.inside.dues.items in
-    let timed = subst (λ k. IsTimed (insert c.self.inside.queue.items c.place_for-at.result t) (slice_set dues k (Some t.due))) (sym c.number.ensures.value)
+    let due_times = c.self.inside.due_times.items in
+    let timed = subst (λ k. IsTimed (insert c.self.inside.queue.items c.place_for-at.result t) (slice_set due_times k (Some t.due))) (sym c.number.ensures.value)
     made.timed in (
-      subst (λ ts. IsTimed ts (slice_set dues c.number.result (Some t.due))) (sym items) timed,
-      omega (arith, length-set dues c.number.result (Some t.due), c.self.invariant.1, c.insert.ensures.capacity),
-      omega (arith, length-set dues c.number.result (Some t.due), c.self.invariant.2),
+      subst (λ ts. IsTimed ts (slice_set due_times c.number.result (Some t.due))) (sym items) timed,
+      omega (arith, length-set due_times c.number.result (Some t.due), c.self.invariant.1, c.insert.ensures.capacity),
+      omega (arith, length-set due_times c.number.result (Some t.due), c.self.invariant.2),
     )
 
 pub returns : goal.returns
@@ -36,4 +36,4 @@ returns c =
     c.place_for-at.ensures.point in
     let items = IfOk-at_ok _ c.unwrap.ensures c.insert.ensures.items in
     same_pending _ _ _ _ (items ∙ made.is ∙ ap (λ p. placed no_later t p.timers) c.self.view_is)
-    (length-set c.self.inside.dues.items c.number.result (Some t.due) ∙ ap (λ p. p.limit) c.self.view_is)
+    (length-set c.self.inside.due_times.items c.number.result (Some t.due) ∙ ap (λ p. p.limit) c.self.view_is)

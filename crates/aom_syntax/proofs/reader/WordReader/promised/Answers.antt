@@ -6,8 +6,8 @@ pub returns : goal.returns
 returns c = rw (
   ← c.kind_of-kind.ensures,
   ← c.all_states.ensures.all,
-  ← c.usual_states-usual_before.ensures.before,
-  ← c.usual_states-usual_before.ensures.after,
-  ← c.usual_words.ensures,
-  ← c.usual_gives.ensures,
+  ← c.default_states-default_before.ensures.before,
+  ← c.default_states-default_before.ensures.after,
+  ← c.default_words.ensures,
+  ← c.default_gives.ensures,
 ) (rw (c.in_ok-before.ensures, c.in_ok-after.ensures, c.in_ok-arguments.ensures, c.in_ok-gives.ensures, c.from_vec.ensures) (search rules))

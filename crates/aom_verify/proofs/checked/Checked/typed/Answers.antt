@@ -2,4 +2,4 @@
 use Rattle.aom_verify.proofs.checked.Checked.typed.Goals as goal
 
 pub returns : goal.returns
-returns c = rw (← c.self.view_is) (c.self.inside.sheets.items, c.self.invariant)
+returns c = rw (← c.self.view_is) (c.self.inside.state_tables.items, c.self.invariant)

@@ -1,6 +1,6 @@
 -- What is kept of a place is the state there, and past the last there is none.
 use Rattle.std.proofs.Common.{None, Some, ap, sym, ◌∙◌, arith}
-use Rattle.aom_verify.proofs.ShapeLemmas.{at_past}
+use Rattle.aom_verify.proofs.AbstractStateLemmas.{at_past}
 use Rattle.aom_verify.specs.States.{shapes}
 use Rattle.aom_verify.proofs.states.PlaceStates.shape.Goals as goal
 

@@ -1,7 +1,7 @@
 -- A place that is not reached, a rule that fails, and flows that are joined.
 use Rattle.std.proofs.Common.{◌≡◌, sym, rules}
 use Rattle.std.proofs.lemmas.Result.{IfOk-weaker, IfErr-weaker}
-use Rattle.aom_shape.specs.Changes.{kept_shape}
+use Rattle.aom_abstract_state.specs.Changes.{kept_shape}
 use Rattle.aom_verify.specs.Entries.{HasFewEntries}
 use Rattle.aom_verify.specs.States.{shapes}
 use Rattle.aom_verify.proofs.Few.{room, ways_few}

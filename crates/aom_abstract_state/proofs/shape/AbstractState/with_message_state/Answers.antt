@@ -1,0 +1,5 @@
+use Rattle.std.proofs.Common.{rules}
+use Rattle.aom_abstract_state.proofs.shape.AbstractState.with_message_state.Goals as goal
+
+pub returns : goal.returns
+returns c = search rules

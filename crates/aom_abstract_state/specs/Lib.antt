@@ -1,0 +1,12 @@
+pub mod AbstractState
+pub mod EntryStacks
+pub mod Kinds
+pub mod Entries
+pub mod Arguments
+pub mod Order
+pub mod Tests
+pub mod Meet
+pub mod Needs
+pub mod Laws
+pub mod Changes
+pub mod Whys

@@ -1,8 +1,0 @@
-use Rattle.aom_active.proofs.Calls.{asks_it}
-use Rattle.aom_active.proofs.active.ActiveObjects.set_asked.Goals as goal
-
-pub invariant_of-self : goal.invariant_of-self
-invariant_of-self c = (asks_it _ c.self.view_is c.self.invariant c.args.id _ _ c.args.is_asked c.requires c.signal.ensures c.mark.ensures).whole
-
-pub returns : goal.returns
-returns c = (asks_it _ c.self.view_is c.self.invariant c.args.id _ c.mark.new.schedule c.args.is_asked c.requires c.signal.ensures c.mark.ensures).asks

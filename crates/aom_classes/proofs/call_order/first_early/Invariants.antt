@@ -1,6 +1,0 @@
-use Rattle.aom_classes.specs.Calls.{RunsBelow}
-use Rattle.aom_classes.proofs.Each.{EachBelow}
-use Rattle.aom_classes.proofs.call_order.first_early.Given as goal
-
-abbrev pub invariant-loop-place : goal.invariant-loop-place
-invariant-loop-place l = EachBelow (λ _. RunsBelow l.image l.number l.method.class) l.code l.place

@@ -1,6 +1,0 @@
-use Rattle.aom_classes.specs.Calls.{CallsOrdered}
-use Rattle.aom_classes.proofs.Each.{EachBelow}
-use Rattle.aom_classes.proofs.call_order.first_unordered.Given as goal
-
-abbrev pub invariant-loop-number : goal.invariant-loop-number
-invariant-loop-number l = EachBelow (CallsOrdered l.image) l.methods l.number

@@ -1,6 +1,0 @@
-use Rattle.std.proofs.Common.{All, take}
-use Rattle.aom_classes.specs.Calls.{MentionsArgument}
-use Rattle.aom_classes.proofs.call_order.may_take_each.Given as goal
-
-abbrev pub invariant-loop-argument : goal.invariant-loop-argument
-invariant-loop-argument l = All (MentionsArgument l.image l.method) (take l.argument-index l.arguments)

@@ -1,7 +1,0 @@
-use Rattle.std.proofs.Common.{rules}
-use Rattle.aom_classes.specs.Faults.{number_of}
-use Rattle.aom_classes.proofs.fault.LinkFault.number.Goals as goal
-
-pub returns : goal.returns
-unfolding number_of
-returns c = search rules

@@ -1,5 +1,0 @@
-use Rattle.aom_classes.proofs.Nesting.{Scanned}
-use Rattle.aom_classes.proofs.loops.loops_nest.Given as goal
-
-abbrev pub invariant-loop-place : goal.invariant-loop-place
-invariant-loop-place l = Scanned l.code l.place l.around.items

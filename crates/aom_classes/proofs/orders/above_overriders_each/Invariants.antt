@@ -1,6 +1,0 @@
-use Rattle.aom_classes.specs.Calls.{OverridersBelow}
-use Rattle.aom_classes.specs.Orders.{AreLeast}
-use Rattle.aom_classes.proofs.orders.above_overriders_each.Given as goal
-
-abbrev pub invariant-loop-called : goal.invariant-loop-called
-invariant-loop-called l = AreLeast l.called l.calls.items (λ k m. OverridersBelow l.image m k)

@@ -1,6 +1,0 @@
-use Rattle.aom_classes.specs.Calls.{EndsBelow}
-use Rattle.aom_classes.specs.Orders.{AreLeast}
-use Rattle.aom_classes.proofs.orders.endings.Given as goal
-
-abbrev pub invariant-loop-class : goal.invariant-loop-class
-invariant-loop-class l = AreLeast l.class l.ends.items (λ c m. EndsBelow l.image m c)

@@ -1,5 +1,0 @@
-use Rattle.aom_classes.specs.Orders.{AreLeast, ReachesAll}
-use Rattle.aom_classes.proofs.orders.greatest_each.Given as goal
-
-abbrev pub invariant-loop-class : goal.invariant-loop-class
-invariant-loop-class l = AreLeast l.class l.most.items (λ c m. ReachesAll l.image l.table c m)

@@ -1,6 +1,0 @@
-use Rattle.aom_classes.proofs.Places.{none_other}
-use Rattle.aom_classes.proofs.overriding.overriders_are_single.Goals as goal
-
-pub returns : goal.returns
-returns c =
-    none_other c.args.image.now _ _ c.is_none.ensures c.second_overrider.ensures

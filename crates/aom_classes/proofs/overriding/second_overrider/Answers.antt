@@ -1,6 +1,0 @@
--- Where none overrides none is overridden twice.
-use Rattle.aom_classes.proofs.Leading.{nothing_once}
-use Rattle.aom_classes.proofs.overriding.second_overrider.Goals as goal
-
-pub returns-then-overrides_nothing : goal.returns-then-overrides_nothing
-returns-then-overrides_nothing c = nothing_once c.args.image.now (c.overrides_nothing.ensures.0 c.if-overrides_nothing.true)

@@ -1,5 +1,0 @@
-use Rattle.std.proofs.Common.{rules}
-use Rattle.aom_clients.proofs.lists.Lists.home.Goals as goal
-
-pub returns-clause-within : goal.returns-clause-within
-returns-clause-within c = search rules

@@ -1,6 +1,0 @@
-use Rattle.std.proofs.Common.{◌≡◌, ◌++◌, flat_map, take}
-use Rattle.aom_codec.specs.Spelling.{pair, thing_number}
-use Rattle.aom_codec.proofs.encoding.put_things.Given as goal
-
-abbrev pub invariant-loop-thing : goal.invariant-loop-thing
-invariant-loop-thing l = l.out.items ≡ l.fn.out.items ++ flat_map (λ t. pair (thing_number t)) (take l.thing-index l.things)

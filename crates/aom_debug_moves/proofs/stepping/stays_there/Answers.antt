@@ -1,4 +1,0 @@
-use Rattle.aom_debug_moves.proofs.stepping.stays_there.Goals as goal
-
-pub returns : goal.returns
-returns g c = λ s st. let told = rw (c.parts.ensures.parts, c.linked.ensures, c.accepted.ensures) at c.pauses.ensures in told s st.stands

@@ -1,4 +1,0 @@
-mod Untold
-mod Lined
-mod Named
-pub use Rattle.aom_explain.proofs.ExplainLemmas

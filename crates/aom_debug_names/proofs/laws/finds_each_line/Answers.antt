@@ -1,6 +1,0 @@
--- A line in which an instruction stands is found.
-use Rattle.aom_debug_names.proofs.Lined.{finds_line}
-use Rattle.aom_debug_names.proofs.laws.finds_each_line.Goals as goal
-
-pub returns : goal.returns
-returns c = finds_line

@@ -1,8 +1,0 @@
--- The place of a name among names that are lent is that among the names.
-use Rattle.std.proofs.Common.{◌∙◌, ap}
-use Rattle.aom_debug_names.specs.Names.{Names, method_named}
-use Rattle.aom_debug_names.proofs.Named.{position_lent}
-use Rattle.aom_debug_names.proofs.names.SourceNames.method_named.Goals as goal
-
-pub returns : goal.returns
-returns c = c.index_of.ensures ∙ position_lent c.args.name.now c.self.inside.methods.now ∙ ap (λ (ns : Names). method_named ns c.args.name.now) c.self.view_is

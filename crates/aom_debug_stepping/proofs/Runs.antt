@@ -1,0 +1,77 @@
+-- Each course is a run: its turns are, and its steps.
+use Rattle.std.proofs.Common.{◌⊎◌, ◌++◌, ℕ, suc, Bool, List, inl, inr, sym, subst, append-nil, ap, ◌∙◌}
+use Rattle.aom_image.specs.Image.{Image}
+use Rattle.aom_semantics.specs.State.{State}
+use Rattle.aom_semantics.specs.World.{Environment, Reaches}
+use Rattle.aom_transcript.specs.declared.line.Line.{Line}
+use Rattle.aom_machine.specs.Steps.{HasTask}
+use Rattle.aom_run.specs.Runs.{Moving}
+use Rattle.aom_debug_stepping.proofs.RunLemmas.{reaches_both}
+use Rattle.aom_debug_stepping.specs.Next.{root_is_due}
+use Rattle.aom_debug_protocol.specs.declared.spot.CodeLocation.{CodeLocation}
+use Rattle.aom_debug_stepping.proofs.Sending.{reaches_arrived}
+use Rattle.aom_debug_stepping.specs.RunGoals.{RunGoals, GoesBy, GoesOn, GoesOver, InDispatch, IsOver, Rests, TurnsOver, WalksOver, WalksThere, run_goal_of, stays_at}
+use Rattle.aom_debug_stepping.specs.RunGoals.{way_of}
+use Rattle.aom_debug_stepping.specs.declared.run_goals.RunGoal.{RunGoal}
+use Rattle.aom_debug_stepping.specs.declared.run_goals.RunGoal.TheVariants as course
+use Rattle.aom_debug_stepping.specs.Over.{depth_of}
+use Rattle.aom_debug_stepping.specs.declared.over.Awaited.{Awaited}
+use Rattle.aom_debug_stepping.specs.declared.walking.Until.TheVariants.{Breakpoint, Depth, Place}
+use Rattle.aom_debug_stepping.proofs.Going.{reaches_goes, run_of}
+use Rattle.aom_debug_stepping.proofs.Passing.{reaches_passed}
+use Rattle.aom_debug_stepping.proofs.Limits.{reaches_to_limit}
+use Rattle.aom_debug_stepping.proofs.DebugSteps.{moving_walk}
+
+pub reaches_by : (p : Image) (outside : Environment) (steps : ℕ) (old new : List CodeLocation) (s : State) (lines : List Line) (u : State) →
+    GoesBy p outside steps old new s lines u → Reaches p outside s lines u
+reaches_by p outside steps old new s lines u (inl x) = reaches_goes p outside old s steps new lines u x
+reaches_by p outside steps old new s lines u (inr y) =
+    let z = y.2 in
+    subst (λ ls. Reaches p outside s ls u) (sym z.5)
+    (reaches_both p outside s z.1 z.0 z.2 u (reaches_goes p outside old s y.0 new z.1 z.0 z.3) (reaches_arrived p outside z.0 z.2 u z.4))
+
+-- turns, and then moves in a dispatch
+reaches_in : (p : Image) (outside : Environment) (leads : RunGoals) →
+    ((old new : List CodeLocation) (s : State) (lines : List Line) (u : State) → leads old new s lines u → Moving p outside.refused s lines u) →
+    (old new : List CodeLocation) (s : State) (lines : List Line) (u : State) → InDispatch p outside leads old new s lines u → Reaches p outside s lines u
+reaches_in p outside leads moves old new s lines u x = subst (λ ls. Reaches p outside s ls u) (sym x.5) (go x.4)
+  where
+    go : (IsOver x.0 × Rests old new x.0 x.2 u) ⊎ (HasTask x.0 × leads old new x.0 x.2 u) → Reaches p outside s (x.1 ++ x.2) u
+    go (inl y) =
+        let same = ap (λ l. x.1 ++ l) y.1.0 ∙ append-nil x.1 in
+        subst (λ ls. Reaches p outside s ls u) (sym same) (subst (λ v. Reaches p outside s x.1 v) (sym y.1.1) (reaches_arrived p outside s x.1 x.0 x.3))
+    go (inr y) = reaches_both p outside s x.1 x.0 x.2 u (reaches_arrived p outside s x.1 x.0 x.3) (run_of p outside x.0 x.2 u (moves old new x.0 x.2 u y.1))
+
+-- steps to a place to stay are moves
+moving_there : (p : Image) (refused : List ℕ) (stays : State → Bool) (old new : List CodeLocation) (s : State) (lines : List Line) (u : State) →
+    WalksThere p refused stays old new s lines u → Moving p refused s lines u
+moving_there p refused stays old new s lines u x = moving_walk p refused stays old s (suc x.0) new lines u x.1
+
+pub reaches_over : (p : Image) (outside : Environment) (old new : List CodeLocation) (s : State) (lines : List Line) (u : State) →
+    TurnsOver p outside old new s lines u → Reaches p outside s lines u
+reaches_over p outside = reaches_in p outside (WalksThere p outside.refused (λ s. root_is_due p s)) (moving_there p outside.refused (λ s. root_is_due p s))
+
+pub reaches_step_over : (p : Image) (outside : Environment) (scope : Awaited) (spots : List CodeLocation)
+    (old new : List CodeLocation) (s : State) (lines : List Line) (u : State) → GoesOver p outside scope spots old new s lines u → Reaches p outside s lines u
+reaches_step_over p outside scope spots = reaches_in p outside
+    (WalksOver p outside.refused scope spots) (λ old new s. moving_there p outside.refused (λ v. stays_at p (Depth (depth_of scope s.tasks)) spots v) old new s)
+
+pub reaches_on : (p : Image) (outside : Environment) (stays : State → Bool) (old new : List CodeLocation) (s : State) (lines : List Line) (u : State) →
+    GoesOn p outside stays old new s lines u → Reaches p outside s lines u
+reaches_on p outside stays old new s lines u x =
+    let z = x.1 in
+    subst (λ ls. Reaches p outside s ls u) (sym z.5)
+    (reaches_both p outside s z.1 z.0 z.2 u (reaches_passed p outside stays old s x.0 new z.1 z.0 z.3) (reaches_arrived p outside z.0 z.2 u z.4))
+
+-- with the run's end by its limit it is a run too
+reaches_way : (p : Image) (outside : Environment) (spots : List CodeLocation) (way : RunGoal) (old new : List CodeLocation) (s : State) (lines : List Line) (u : State) →
+    way_of p outside spots way old new s lines u → Reaches p outside s lines u
+reaches_way p outside spots (course.Steps n) = reaches_by p outside n
+reaches_way p outside spots course.EndOfDispatch = reaches_over p outside
+reaches_way p outside spots course.Breakpoint = reaches_on p outside (λ s. stays_at p Breakpoint spots s)
+reaches_way p outside spots (course.Over scope) = reaches_step_over p outside scope spots
+reaches_way p outside spots (course.Place spot) = reaches_on p outside (λ s. stays_at p (Place spot) spots s)
+
+pub reaches_course : (p : Image) (outside : Environment) (spots : List CodeLocation) (way : RunGoal) (old new : List CodeLocation) (s : State) (lines : List Line) (u : State) →
+    run_goal_of p outside spots way old new s lines u → Reaches p outside s lines u
+reaches_course p outside spots way = reaches_to_limit p outside (way_of p outside spots way) (reaches_way p outside spots way)

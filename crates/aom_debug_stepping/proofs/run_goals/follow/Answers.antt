@@ -1,0 +1,76 @@
+use Rattle.aom_debug_stepping.proofs.run_goals.follow.Goals as goal
+
+pub returns-in-Steps-clause-went : goal.returns-in-Steps-clause-went
+returns-in-Steps-clause-went g c = rw c.in-Steps.is c.run_steps.ensures.went
+
+pub returns-in-EndOfDispatch-clause-went : goal.returns-in-EndOfDispatch-clause-went
+returns-in-EndOfDispatch-clause-went g c = rw c.in-EndOfDispatch.is c.run_in_dispatch.ensures.went
+
+pub returns-in-Breakpoint-clause-went : goal.returns-in-Breakpoint-clause-went
+returns-in-Breakpoint-clause-went g c = rw c.in-Breakpoint.is c.resume_run.ensures.went
+
+pub returns-in-Steps-clause-agree : goal.returns-in-Steps-clause-agree
+returns-in-Steps-clause-agree g c = c.run_steps.ensures.agree
+
+pub returns-in-Steps-clause-keeps : goal.returns-in-Steps-clause-keeps
+returns-in-Steps-clause-keeps g c = c.run_steps.ensures.keeps
+
+pub returns-in-EndOfDispatch-clause-agree : goal.returns-in-EndOfDispatch-clause-agree
+returns-in-EndOfDispatch-clause-agree g c = c.run_in_dispatch.ensures.agree
+
+pub returns-in-EndOfDispatch-clause-keeps : goal.returns-in-EndOfDispatch-clause-keeps
+returns-in-EndOfDispatch-clause-keeps g c = c.run_in_dispatch.ensures.keeps
+
+pub returns-in-Breakpoint-clause-agree : goal.returns-in-Breakpoint-clause-agree
+returns-in-Breakpoint-clause-agree g c = c.resume_run.ensures.agree
+
+pub returns-in-Breakpoint-clause-keeps : goal.returns-in-Breakpoint-clause-keeps
+returns-in-Breakpoint-clause-keeps g c = c.resume_run.ensures.keeps
+
+pub run_steps-requires-clause-agree : goal.run_steps-requires-clause-agree
+run_steps-requires-clause-agree g c = c.requires.agree
+
+pub run_steps-requires-clause-ready : goal.run_steps-requires-clause-ready
+run_steps-requires-clause-ready g c = c.requires.ready
+
+pub run_in_dispatch-requires-clause-agree : goal.run_in_dispatch-requires-clause-agree
+run_in_dispatch-requires-clause-agree g c = c.requires.agree
+
+pub run_in_dispatch-requires-clause-ready : goal.run_in_dispatch-requires-clause-ready
+run_in_dispatch-requires-clause-ready g c = c.requires.ready
+
+pub resume_run-requires-clause-agree : goal.resume_run-requires-clause-agree
+resume_run-requires-clause-agree g c = c.requires.agree
+
+pub resume_run-requires-clause-ready : goal.resume_run-requires-clause-ready
+resume_run-requires-clause-ready g c = c.requires.ready
+
+pub returns-in-Over-clause-went : goal.returns-in-Over-clause-went
+returns-in-Over-clause-went g c = rw c.in-Over.is c.run_in_dispatch-in-Over.ensures.went
+
+pub returns-in-Place-clause-went : goal.returns-in-Place-clause-went
+returns-in-Place-clause-went g c = rw c.in-Place.is c.resume_run-in-Place.ensures.went
+
+pub returns-in-Over-clause-agree : goal.returns-in-Over-clause-agree
+returns-in-Over-clause-agree g c = c.run_in_dispatch-in-Over.ensures.agree
+
+pub returns-in-Over-clause-keeps : goal.returns-in-Over-clause-keeps
+returns-in-Over-clause-keeps g c = c.run_in_dispatch-in-Over.ensures.keeps
+
+pub returns-in-Place-clause-agree : goal.returns-in-Place-clause-agree
+returns-in-Place-clause-agree g c = c.resume_run-in-Place.ensures.agree
+
+pub returns-in-Place-clause-keeps : goal.returns-in-Place-clause-keeps
+returns-in-Place-clause-keeps g c = c.resume_run-in-Place.ensures.keeps
+
+pub run_in_dispatch-requires-in-Over-clause-agree : goal.run_in_dispatch-requires-in-Over-clause-agree
+run_in_dispatch-requires-in-Over-clause-agree g c = c.requires.agree
+
+pub run_in_dispatch-requires-in-Over-clause-ready : goal.run_in_dispatch-requires-in-Over-clause-ready
+run_in_dispatch-requires-in-Over-clause-ready g c = c.requires.ready
+
+pub resume_run-requires-in-Place-clause-agree : goal.resume_run-requires-in-Place-clause-agree
+resume_run-requires-in-Place-clause-agree g c = c.requires.agree
+
+pub resume_run-requires-in-Place-clause-ready : goal.resume_run-requires-in-Place-clause-ready
+resume_run-requires-in-Place-clause-ready g c = c.requires.ready

@@ -1,0 +1,53 @@
+-- Without a text nothing is told by names: there is none to be found in it.
+use Rattle.std.proofs.Common.{◌≡◌, ◌+◌, ℕ, suc, Bool, true, false, cond, nat_lt, List, [], ◌++◌, Option}
+use Rattle.std.proofs.Common.{None, Result, Ok, Err, add-one, ap, codes, decimal, length, refl, slice_get}
+use Rattle.aom_syntax.specs.declared.keyword.Keyword.TheVariants as k
+use Rattle.aom_diagnostics.specs.Declarations.{begins, part}
+use Rattle.aom_debug_protocol.specs.Answers.{answer_text, content_text}
+use Rattle.aom_debug_protocol.specs.Commands.{command_said}
+use Rattle.aom_debug_protocol.specs.declared.command.Command.{Command}
+use Rattle.aom_debug_protocol.specs.declared.fault.DebugFault.{DebugFault}
+use Rattle.aom_debug_protocol.specs.declared.spot.CodeLocation.{CodeLocation}
+use Rattle.aom_debug_protocol.specs.declared.answer.Content.{Content}
+use Rattle.aom_debug_protocol.specs.declared.answer.Content.TheVariants as contents
+use Rattle.aom_debug_protocol.specs.declared.answer.Source.TheVariants as sources
+use Rattle.aom_debug_protocol.specs.declared.answer.Answer.{Answer}
+use Rattle.aom_debug_protocol.specs.declared.answer.Answer.TheVariants.{At, Frame, Ran, Register}
+use Rattle.aom_debug_symbols.specs.NameLists.{statement_at, unnamed}
+use Rattle.aom_debug_symbols.specs.Answers.{answer_by, behind, content_by, head_by}
+use Rattle.aom_debug_symbols.specs.Commands.{command_by, or_named}
+
+-- no instruction stands in it
+bare_part : (number : ℕ) → part (begins k.Method) [] (suc number) ≡ []
+bare_part number = refl
+
+nowhere : (spot : CodeLocation) → statement_at unnamed spot ≡ None
+nowhere spot = rw add-one (ap (λ ss. slice_get ss spot.place) (bare_part spot.method))
+
+-- what a register has
+plain_content : (content : Content) → content_by unnamed content ≡ content_text content
+plain_content (contents.Word word) = refl
+plain_content (contents.Own class) = refl
+plain_content contents.Null = refl
+plain_content (contents.Message (sources.Client client)) = refl
+plain_content (contents.Message (sources.Token class)) = refl
+
+-- each answer
+pub plain_answer : (answer : Answer) → answer_by unnamed answer ≡ answer_text answer
+plain_answer (At spot) = ap (behind (head_by unnamed (At spot))) (nowhere spot)
+plain_answer (Frame spot) = ap (behind (head_by unnamed (Frame spot))) (nowhere spot)
+plain_answer (Ran spot) = ap (behind (head_by unnamed (Ran spot))) (nowhere spot)
+plain_answer (Register i content) = ap (λ (u : List ℕ). codes "r" ++ decimal i ++ u) (plain_content content)
+plain_answer answer = refl
+
+-- and each command
+same : (long : Bool) (said : Result (Option Command) DebugFault) → cond long said said ≡ said
+same true said = refl
+same false said = refl
+
+plain_said : (line : List ℕ) (said : Result (Option Command) DebugFault) → or_named unnamed line said ≡ said
+plain_said line (Ok command) = refl
+plain_said line (Err fault) = same (nat_lt 256 (length line)) (Err fault)
+
+pub plain_command : (line : List ℕ) → command_by unnamed line ≡ command_said line
+plain_command line = plain_said line (command_said line)

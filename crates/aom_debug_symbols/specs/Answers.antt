@@ -1,0 +1,97 @@
+-- How the answers of a debugger are spelled with the names and the lines of a text.
+use Rattle.std.specs.Prelude.{ℕ, ℤ, Bool, true, false, List, ◌++◌, Option, Some, None, codes, decimal}
+use Rattle.std.specs.Fmt.{signed_decimal}
+use Rattle.aom_diagnostics.specs.Sources.{spaced}
+use Rattle.aom_text.specs.declared.text.Statement.{Statement}
+use Rattle.aom_debug_protocol.specs.Answers.{answer_text, phase_text}
+use Rattle.aom_debug_protocol.specs.declared.spot.CodeLocation.{CodeLocation}
+use Rattle.aom_debug_protocol.specs.declared.answer.Phase.{Phase}
+use Rattle.aom_debug_protocol.specs.declared.answer.Content.{Content}
+use Rattle.aom_debug_protocol.specs.declared.answer.Content.TheVariants as contents
+use Rattle.aom_debug_protocol.specs.declared.answer.Source.{Source}
+use Rattle.aom_debug_protocol.specs.declared.answer.Source.TheVariants as sources
+use Rattle.aom_debug_protocol.specs.declared.answer.Answer.{Answer}
+use Rattle.aom_debug_protocol.specs.declared.answer.Answer.TheVariants.{At, Gone, OfClass, Object, Operation, Active, Server, Timer, Break, Frame, Register, Ran}
+use Rattle.aom_debug_symbols.specs.NameLists.{NameLists, class_by, method_by, statement_at}
+
+-- a method and a place
+abbrev pub place_by : NameLists → CodeLocation → List ℕ
+place_by ns spot = method_by ns spot.method ++ codes " " ++ decimal spot.place
+
+-- ---- what a line begins with
+
+abbrev pub active_by : NameLists → ℕ → ℤ → Phase → ℤ → List ℕ
+active_by ns class priority phase status = class_by ns class ++ codes " " ++ signed_decimal priority ++ phase_text phase ++ signed_decimal status
+
+abbrev pub server_by : NameLists → ℕ → ℤ → ℕ → List ℕ
+server_by ns class priority queued = class_by ns class ++ codes " " ++ signed_decimal priority ++ codes " server " ++ decimal queued
+
+-- who hears when a message is completed
+abbrev pub observer_by : NameLists → Source → List ℕ
+observer_by ns (sources.Client client) = codes "msg " ++ decimal client
+observer_by ns (sources.Token class) = codes "token " ++ class_by ns class
+
+-- with a space before it
+abbrev pub content_by : NameLists → Content → List ℕ
+content_by ns (contents.Word word) = codes " word " ++ signed_decimal word
+content_by ns (contents.Own class) = codes " own " ++ class_by ns class
+content_by ns contents.Null = codes " null"
+content_by ns (contents.Message source) = codes " " ++ observer_by ns source
+
+-- an answer up to the statement that stands behind it, if one does. Where neither a class nor a method is told it is as ever
+abbrev pub head_by : NameLists → Answer → List ℕ
+head_by ns (At spot) = codes "at " ++ place_by ns spot
+head_by ns (Gone class) = codes "at gone " ++ class_by ns class
+head_by ns (OfClass class count) = class_by ns class ++ codes " " ++ decimal count
+head_by ns (Object class) = codes "object " ++ class_by ns class
+head_by ns (Operation method word) = codes "op " ++ method_by ns method ++ codes " " ++ signed_decimal word
+head_by ns (Active class priority phase status) = active_by ns class priority phase status
+head_by ns (Server class priority queued) = server_by ns class priority queued
+head_by ns (Timer class due) = class_by ns class ++ codes " " ++ decimal due
+head_by ns (Break spot) = codes "break " ++ place_by ns spot
+head_by ns (Frame spot) = place_by ns spot
+head_by ns (Register i content) = codes "r" ++ decimal i ++ content_by ns content
+head_by ns (Ran spot) = place_by ns spot
+head_by ns answer = answer_text answer
+
+-- an answer that tells a class
+abbrev pub reports_class : Answer → Bool
+reports_class (Gone class) = true
+reports_class (OfClass class count) = true
+reports_class (Object class) = true
+reports_class (Active class priority phase status) = true
+reports_class (Server class priority queued) = true
+reports_class (Timer class due) = true
+reports_class (Register i content) = true
+reports_class answer = false
+
+-- ---- and ends with
+
+-- the instruction that an answer shows. A breakpoint is told as the command that sets it, and shows none
+abbrev pub shown_spot : Answer → Option CodeLocation
+shown_spot (At spot) = Some spot
+shown_spot (Frame spot) = Some spot
+shown_spot (Ran spot) = Some spot
+shown_spot answer = None
+
+-- the statement of the text that holds it
+abbrev pub shown_at : NameLists → Option CodeLocation → Option Statement
+shown_at ns None = None
+shown_at ns (Some spot) = statement_at ns spot
+
+-- what stands before the words of a statement
+abbrev pub lead_text : (line : ℕ) → List ℕ
+lead_text line = codes " line " ++ decimal line ++ codes ":"
+
+-- the line of a statement, and its words
+abbrev pub statement_text : Statement → List ℕ
+statement_text s = lead_text s.line ++ spaced s.words
+
+-- behind what the line begins with
+abbrev pub behind : List ℕ → Option Statement → List ℕ
+behind head None = head
+behind head (Some s) = head ++ statement_text s
+
+-- an answer, without its line feed
+abbrev pub answer_by : NameLists → Answer → List ℕ
+answer_by ns answer = behind (head_by ns answer) (shown_at ns (shown_spot answer))

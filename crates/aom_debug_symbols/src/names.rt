@@ -1,0 +1,124 @@
+//! The names and the lines of a text.
+ghost use Rattle.std.specs.Prelude.{◌≡◌, ◌≤◌, ◌^◌, IfSome, decimal, length, option_map, unwrap_or};
+ghost use Rattle.std.specs.List.{position};
+ghost use Rattle.std.specs.Str.{bytes_eq};
+ghost use Rattle.aom_transcript.specs.Naming.{class_word, borrowed};
+ghost use Rattle.aom_debug_symbols.specs.NameLists.{class_by, method_by, method_named, statement_at, unnamed};
+ghost use Rattle.aom_debug_symbols.specs.Commands.{has_text};
+ghost use Rattle.aom_debug_symbols.specs.Lines.{spot_in};
+
+use crate::lines::spot_in;
+use aom_debug_protocol::CodeLocation;
+use aom_diagnostics::instruction_statement;
+use aom_text::Statement;
+use std::marker::Model;
+
+/// No name is longer than this.
+const LONGEST_NAME: usize = 32;
+
+/// The names of classes and of methods, that of number 0 first, and the text in which they stand.
+#[derive(Drop)]
+pub struct SourceNames<'a> {
+    classes: &'a [&'a [u8]],
+    methods: &'a [&'a [u8]],
+    text: &'a [u8],
+}
+
+impl<'a> Model for SourceNames<'a> {
+    ghost use Rattle.std.specs.Prelude.{◌≤◌, ◌^◌, length};
+    ghost use Rattle.aom_transcript.specs.Naming.{borrowed};
+    ghost use Rattle.aom_debug_symbols.specs.NameLists.{NameLists as NamesRecord};
+
+    ghost Value = { NamesRecord };
+
+    ghost view = { λ n. record { classes = borrowed n.classes.now; methods = borrowed n.methods.now; text = n.text.now } };
+
+    ghost invariant = { λ n. length n.text.now ≤ 2 ^ 20 };
+}
+
+/// A name at a number, where there is one that is no longer than a name may be.
+fn name_at<'a>(names: &[&'a [u8]], number: u16) -> Option<&'a [u8]>
+    ensures is { class_word (borrowed names.now) number ≡ unwrap_or (option_map (λ n. n.now) result) (decimal number) }
+    ensures short { IfSome result (λ name. length name.now ≤ 32) }
+{
+    let name = names.get(usize::from(number))?;
+    if name.len() > LONGEST_NAME {
+        return None;
+    }
+    Some(name)
+}
+
+/// Where the first of them stands that is that name.
+fn index_of(names: &[&[u8]], name: &[u8]) -> Option<usize>
+    ensures { result ≡ position (λ other. bytes_eq other.now name.now) names.now }
+{
+    names.iter().position(|other| *other == name)
+}
+
+impl<'a> SourceNames<'a> {
+    /// The names that stand in a text.
+    pub fn new(classes: &'a [&'a [u8]], methods: &'a [&'a [u8]], text: &'a [u8]) -> SourceNames<'a>
+        requires { length text.now ≤ 2 ^ 20 }
+        ensures { result ≡ record { classes = borrowed classes.entry.now; methods = borrowed methods.entry.now; text = text.entry.now } }
+    {
+        SourceNames {
+            classes,
+            methods,
+            text,
+        }
+    }
+
+    /// There is no text: all is told by numbers.
+    pub fn none() -> SourceNames<'a>
+        ensures { result ≡ unnamed }
+    {
+        SourceNames {
+            classes: &[],
+            methods: &[],
+            text: &[],
+        }
+    }
+
+    /// The name of a class, where it has one.
+    pub fn class(&self, number: u16) -> Option<&'a [u8]>
+        ensures is { class_by self.now number ≡ unwrap_or (option_map (λ n. n.now) result) (decimal number) }
+        ensures short { IfSome result (λ name. length name.now ≤ 32) }
+    {
+        name_at(self.classes, number)
+    }
+
+    /// The name of a method, where it has one.
+    pub fn method(&self, number: u16) -> Option<&'a [u8]>
+        ensures is { method_by self.now number ≡ unwrap_or (option_map (λ n. n.now) result) (decimal number) }
+        ensures short { IfSome result (λ name. length name.now ≤ 32) }
+    {
+        name_at(self.methods, number)
+    }
+
+    /// The number of the method of that name.
+    pub(crate) fn method_named(&self, name: &[u8]) -> Option<usize>
+        ensures { result ≡ method_named self.now name.now }
+    {
+        index_of(self.methods, name)
+    }
+
+    /// The statement that holds the instruction at a place.
+    pub(crate) fn statement(&self, spot: CodeLocation) -> Option<Statement<'a>>
+        ensures { result ≡ statement_at self.now spot }
+    {
+        instruction_statement(self.text, usize::from(spot.method), spot.place)
+    }
+
+    /// The place of the first instruction in a line, if one stands there.
+    pub(crate) fn spot_in(&self, line: u32) -> Option<CodeLocation>
+        ensures { result ≡ spot_in self.now.text line }
+    {
+        spot_in(self.text, line)
+    }
+
+    pub(crate) fn has_text(&self) -> bool
+        ensures { result ≡ has_text self.now }
+    {
+        !self.methods.is_empty()
+    }
+}

@@ -1,9 +1,0 @@
--- The lines of the items so far are out.
-use Rattle.aom_image.specs.Image.{Image}
-use Rattle.aom_debug_views.specs.Sights.{lowest_items}
-use Rattle.aom_debug_views.specs.Telling.{Tells, answers_by}
-use Rattle.aom_debug_views.proofs.cleanup.tell_cleanup.Given as goal
-
-abbrev pub invariant-loop-height : goal.invariant-loop-height
-invariant-loop-height g l = (p : Image) →
-    Tells (record { image = p; parts = l.parts }) (λ s. answers_by l.names (lowest_items s l.height)) (g.W.Sink.out l.initial.out) (g.W.Sink.out l.out)

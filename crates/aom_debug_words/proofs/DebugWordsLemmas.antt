@@ -1,2 +1,0 @@
--- The lemmas that other crates cite; what else stands in these proofs is the crate's own.
-pub use Rattle.aom_debug_words.proofs.Marking.{none_kept}

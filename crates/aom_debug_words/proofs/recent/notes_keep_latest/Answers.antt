@@ -1,5 +1,0 @@
-use Rattle.aom_debug_words.proofs.Latest.{keep_last-more}
-use Rattle.aom_debug_words.proofs.recent.notes_keep_latest.Goals as goal
-
-pub returns : goal.returns
-returns c = keep_last-more 16

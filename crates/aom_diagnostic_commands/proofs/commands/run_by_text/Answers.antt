@@ -1,0 +1,12 @@
+-- The text is refused, or it denotes the image, and the command goes on.
+use Rattle.std.proofs.Common.{refl}
+use Rattle.aom_diagnostic_commands.specs.Explaining.Beside.{denotes, refused}
+use Rattle.aom_diagnostic_commands.proofs.Behind.{answered}
+use Rattle.aom_diagnostic_commands.proofs.commands.run_by_text.Goals as goal
+
+pub returns-in-Err : goal.returns-in-Err
+returns-in-Err g c = refused refl c.in-Err.fault c.in-Err.ensures.err c.report_text_refusal.ensures
+
+pub returns-in-Ok : goal.returns-in-Ok
+returns-in-Ok g c = denotes c.in-Ok.ensures.makes
+    (answered _ _ _ _ _ (rw c.in-Ok.ensures.text at c.try_run_reported-found.ensures) (rw c.in-Ok.ensures.text at c.answer_by_text.ensures))

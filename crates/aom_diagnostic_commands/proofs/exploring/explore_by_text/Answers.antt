@@ -1,0 +1,10 @@
+-- The text is refused, or it denotes the image, and the command goes on.
+use Rattle.std.proofs.Common.{refl}
+use Rattle.aom_diagnostic_commands.specs.Explaining.Beside.{denotes, refused}
+use Rattle.aom_diagnostic_commands.proofs.exploring.explore_by_text.Goals as goal
+
+pub returns-in-Err : goal.returns-in-Err
+returns-in-Err g c = refused refl c.in-Err.fault c.in-Err.ensures.err c.report_text_fault.ensures
+
+pub returns-in-Ok : goal.returns-in-Ok
+returns-in-Ok g c = denotes c.in-Ok.ensures.makes c.explore_bytes.ensures

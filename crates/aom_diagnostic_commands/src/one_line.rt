@@ -1,0 +1,180 @@
+//! A fault in one line with its place, as compilers write it.
+ghost use Rattle.std.specs.Prelude.{ℕ, ◌≡◌, IfOk, List, None, codes};
+ghost use Rattle.aom_image.specs.Image.{Image as ImageRecord};
+ghost use Rattle.aom_diagnostics.specs.Lines.{as_line_text};
+ghost use Rattle.aom_diagnostics.specs.Table.{word_texts};
+ghost use Rattle.aom_diagnostics.specs.declared.word.Unnumbered.TheVariants.{Text};
+ghost use Rattle.aom_commands.specs.Acceptable.{IsSerialized};
+ghost use Rattle.aom_commands.specs.Headline.{Says, ReportsFault};
+ghost use Rattle.aom_commands.specs.Status.{status_of};
+ghost use Rattle.aom_transcript.specs.Text.{ended};
+ghost use Rattle.aom_diagnostic_commands.specs.AsLine.{AnsweredOrAsLine, IsLineOf, LinesFault, LinesLink, LinesText, ReportsAsLine, fault_place, line_at, refusal_place};
+
+use crate::explaining::entry_of;
+use crate::with_text::{ImageText, TextFault};
+use aom_codec::decode;
+use aom_commands::{ExitStatus, Fault, fault_text, report};
+use aom_cost_report::FigureWriter;
+use aom_diagnostics::{
+    Explanation, Unnumbered, budget_line, link_line, refusal_line, word_entry, write_as_line,
+};
+use aom_image::Image;
+use aom_link_conditions::{LinkFault, link_place};
+use aom_transcript::{Sink, write_text};
+use aom_verify::Refusal;
+use std::alloc::{AllocError, Global};
+
+fn refusal_place(text: &ImageText, refusal: Refusal) -> Option<u32>
+    ensures { result ≡ refusal_place text.now refusal }
+{
+    match refusal {
+        Refusal::OutOfMemory => None,
+        Refusal::Refused { method, place, .. } => refusal_line(text.bytes(), method, place),
+    }
+}
+
+fn link_place_line(image: &Image, text: &ImageText, fault: LinkFault) -> Option<u32>
+    ensures { LinesLink image.now text.now fault result }
+{
+    match link_place(image, fault) {
+        Some(place) => link_line(text.bytes(), place),
+        None => None,
+    }
+}
+
+/// The line of a text in which its image fails a link condition.
+fn link_fault_line(
+    alloc: Global,
+    image: &[u8],
+    text: &ImageText,
+    fault: LinkFault,
+) -> Result<Option<u32>, AllocError>
+    ensures { IfOk result (λ line. (p : ImageRecord) → IsSerialized image.now p → LinesLink p text.now fault line) }
+{
+    match decode(alloc, image) {
+        Ok(image) => Ok(link_place_line(&image, text, fault)),
+        Err(_) => Err(AllocError),
+    }
+}
+
+/// The line of a text in which a fault of it or of its image is.
+fn line_of_fault(
+    alloc: Global,
+    image: &[u8],
+    text: &ImageText,
+    fault: &Fault,
+) -> Result<Option<u32>, AllocError>
+    ensures { IfOk result (IsLineOf image.now text.now fault.now) }
+{
+    match fault {
+        Fault::Asm(fault) => Ok(Some(fault.line)),
+        Fault::Link(fault) => link_fault_line(alloc, image, text, *fault),
+        Fault::Verify(refusal) => Ok(refusal_place(text, *refusal)),
+        Fault::Budget(fault) => Ok(budget_line(text.bytes(), fault)),
+        _ => Ok(None),
+    }
+}
+
+/// One line: the file, that line of it, how a fault is told and what it is called.
+fn line_of(
+    alloc: Global,
+    file: &[u8],
+    place: Option<u32>,
+    reported: &[u8],
+    entry: &Explanation,
+) -> Result<Vec<u8>, AllocError>
+    ensures { IfOk result (λ line. line.items ≡ as_line_text file.now place reported.now entry.now.name) }
+{
+    let mut out = FigureWriter::new(alloc);
+    write_as_line(&mut out, file, place, reported, entry)?;
+    Ok(out.into_text())
+}
+
+/// Tells a fault in one line of a file, and answers its status. Where there is no memory for that line, the fault's own is told.
+pub fn report_as_line<E: Sink>(
+    alloc: Global,
+    file: &[u8],
+    place: Option<u32>,
+    fault: &Fault,
+    errors: &mut E,
+) -> ExitStatus
+    ensures status { result ≡ status_of fault.now }
+    ensures reported { ReportsAsLine (line_at file.now place fault.now) (ReportsFault fault.now) (record { before = E.out errors.old; now = E.out errors.new; failed = E.failed errors.new }) }
+{
+    let reported = fault_text(fault);
+    match line_of(alloc, file, place, reported.as_bytes(), &entry_of(fault)) {
+        Ok(line) => {
+            write_text(errors, &line);
+            fault.status()
+        }
+        Err(_) => report(fault, errors),
+    }
+}
+
+/// Tells a fault in one line of the text that the image is of, and answers its status. Where there is no memory to find the line, the
+/// fault's own is told.
+fn report_placed<E: Sink>(
+    alloc: Global,
+    fault: &Fault,
+    image: &[u8],
+    file: &[u8],
+    text: &ImageText,
+    errors: &mut E,
+) -> ExitStatus
+    ensures status { result ≡ status_of fault.now }
+    ensures reported { LinesFault file.now (IsLineOf image.now text.now fault.now) fault.now (record { before = E.out errors.old; now = E.out errors.new; failed = E.failed errors.new }) }
+{
+    match line_of_fault(alloc, image, text, fault) {
+        Ok(line) => report_as_line(alloc, file, line, fault, errors),
+        Err(_) => report(fault, errors),
+    }
+}
+
+/// Answers the status that a call has come to, or tells its fault in one line of the text that the image is of.
+pub fn answer_as_line<E: Sink>(
+    alloc: Global,
+    found: Result<ExitStatus, Fault>,
+    image: &[u8],
+    file: &[u8],
+    text: &ImageText,
+    errors: &mut E,
+) -> ExitStatus
+    ensures { AnsweredOrAsLine file.now (IsLineOf image.now text.now) found (record { before = E.out errors.old; now = E.out errors.new; failed = E.failed errors.new }) result }
+{
+    match found {
+        Ok(status) => status,
+        Err(fault) => report_placed(alloc, &fault, image, file, text, errors),
+    }
+}
+
+/// Tells that a text denotes another image.
+fn line_other<E: Sink>(alloc: Global, file: &[u8], errors: &mut E)
+    ensures { ReportsAsLine (as_line_text file.now None (codes "text") (word_texts Text).name) (Says (ended (codes "text"))) (record { before = E.out errors.old; now = E.out errors.new; failed = E.failed errors.new }) }
+{
+    match line_of(alloc, file, None, b"text", &word_entry(Unnumbered::Text)) {
+        Ok(line) => write_text(errors, &line),
+        Err(_) => write_text(errors, b"text\n"),
+    }
+}
+
+/// Tells why a text is refused beside an image.
+pub fn line_text<E: Sink>(
+    alloc: Global,
+    fault: &TextFault,
+    file: &[u8],
+    errors: &mut E,
+) -> ExitStatus
+    ensures { (text : List ℕ) → LinesText file.now text fault.now result (record { before = E.out errors.old; now = E.out errors.new; failed = E.failed errors.new }) }
+{
+    match *fault {
+        TextFault::Asm(fault) => {
+            report_as_line(alloc, file, Some(fault.line), &Fault::Asm(fault), errors);
+            ExitStatus::CallRefused
+        }
+        TextFault::Other => {
+            line_other(alloc, file, errors);
+            ExitStatus::CallRefused
+        }
+        TextFault::Memory => report(&Fault::Memory, errors),
+    }
+}

@@ -1,0 +1,14 @@
+-- The method at hand is the one that has that number.
+use Rattle.std.proofs.Common.{◌≡◌, ◌∙◌, ◌++◌, Some, ap, slice_get, sym}
+use Rattle.std.proofs.lemmas.Option.{slice_get-get_or}
+use Rattle.std.proofs.lemmas.Result.{IfOk-weaker}
+use Rattle.aom_diagnostics.specs.Linking.{declared_method}
+use Rattle.aom_diagnostics.proofs.linking.write_declared_method.Goals as goal
+
+pub returns-in-Some : goal.returns-in-Some
+returns-in-Some c =
+    let found = rw (c.as_slice.ensures, c.methods.ensures.value, c.number.ensures.value) at c.in-Some.ensures.lookup in
+    let method = c.in-Some.method.now in
+    let there : slice_get c.args.image.now.methods c.args.number ≡ Some method = slice_get-get_or c.args.image.now.methods c.args.number method found.3.0
+    ∙ ap (λ m. Some m) (sym found.1) in
+    IfOk-weaker c.write_heading.result _ _ (λ r written. written ∙ ap (λ o. c.args.out.now ++ declared_method c.args.number o) (sym there)) c.write_heading.ensures

@@ -1,0 +1,12 @@
+pub mod Declarations
+pub mod Laws
+pub mod Lines
+pub mod Linking
+pub mod Compared
+pub mod Entries
+pub mod Forms
+pub mod Malformed
+pub mod Known
+pub mod Places
+pub mod Sources
+pub mod Table

@@ -1,5 +1,0 @@
-use Rattle.std.proofs.Common.{rules}
-use Rattle.aom_explain.proofs.known.put_age.Goals as goal
-
-pub returns-in-Fresh : goal.returns-in-Fresh
-returns-in-Fresh c = search rules

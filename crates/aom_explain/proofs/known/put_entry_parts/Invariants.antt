@@ -1,8 +1,0 @@
--- The parts so far are out.
-use Rattle.std.proofs.Common.{◌≡◌, ◌++◌, slice_get}
-use Rattle.aom_figures.specs.Text.{by_number}
-use Rattle.aom_explain.specs.Known.{entry_part}
-use Rattle.aom_explain.proofs.known.put_entry_parts.Given as goal
-
-abbrev pub invariant-loop-number : goal.invariant-loop-number
-invariant-loop-number l = l.out ≡ l.fn.out ++ by_number (λ k. entry_part k (slice_get l.shape.entries k)) l.number

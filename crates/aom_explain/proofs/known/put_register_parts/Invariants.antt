@@ -1,9 +1,0 @@
--- The parts so far are out.
-use Rattle.std.proofs.Common.{◌≡◌, ◌++◌}
-use Rattle.aom_figures.specs.Text.{by_number}
-use Rattle.aom_shape.specs.Kinds.{register}
-use Rattle.aom_explain.specs.Known.{register_part}
-use Rattle.aom_explain.proofs.known.put_register_parts.Given as goal
-
-abbrev pub invariant-loop-number : goal.invariant-loop-number
-invariant-loop-number l = l.out ≡ l.fn.out ++ by_number (λ i. register_part i (register l.shape i)) l.number

@@ -1,7 +1,0 @@
-use Rattle.std.proofs.Common.{◌≡◌, ◌++◌, map, take}
-use Rattle.aom_explain.specs.Places.{shown_byte}
-use Rattle.aom_explain.proofs.place.put_shown.Given as goal
-
--- the bytes so far are out
-abbrev pub invariant-loop-byte : goal.invariant-loop-byte
-invariant-loop-byte l = l.out ≡ l.fn.out ++ map shown_byte (take l.byte-index l.bytes)

@@ -1,5 +1,0 @@
-use Rattle.std.proofs.Common.{rules}
-use Rattle.aom_explain.proofs.source.budget_statement.Goals as goal
-
-pub returns-in-Main : goal.returns-in-Main
-returns-in-Main c = search rules

@@ -1,5 +1,0 @@
-use Rattle.std.proofs.Common.{rules}
-use Rattle.aom_explain.proofs.table.budget_entry.Goals as goal
-
-pub returns-in-TooDeep : goal.returns-in-TooDeep
-returns-in-TooDeep c = search rules

@@ -1,6 +1,0 @@
--- Descending is an order.
-use Rattle.aom_families.proofs.RolesLemmas.{itself, no_higher, through}
-use Rattle.aom_families.specs.Laws.{DescendingIsAnOrder}
-
-pub descending_is_an_order : DescendingIsAnOrder
-descending_is_an_order = record { itself = itself; through = through; lower = no_higher }

@@ -1,0 +1,3 @@
+pub mod Injections
+pub mod Planned
+pub mod OutcomeTables

@@ -1,8 +1,0 @@
--- Each class is written by its number.
-use Rattle.aom_figures.specs.Classes.{class_text}
-use Rattle.aom_figures.proofs.GraphGrowing.{each_more}
-use Rattle.aom_figures.proofs.class.put_classes.Goals as goal
-
-pub loop-index-preserved : goal.loop-index-preserved
-loop-index-preserved c = each_more (class_text c.args.names.now c.args.linked.now c.args.figures.now.prices)
-    _ _ _ _ _ _ _ c.class_number.ensures c.loop-index-test.true c.index-classes-index.is c.loop-index.invariant c.in_ok-put_class.ensures

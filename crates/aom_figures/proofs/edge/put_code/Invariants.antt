@@ -1,6 +1,0 @@
-use Rattle.std.proofs.Common.{◌≡◌, ◌++◌, take}
-use Rattle.aom_figures.specs.Edges.{code_text}
-use Rattle.aom_figures.proofs.edge.put_code.Given as goal
-
-abbrev pub invariant-loop-instr : goal.invariant-loop-instr
-invariant-loop-instr l = l.out ≡ l.fn.out ++ code_text l.from (take l.instr-index l.code)

@@ -1,8 +1,0 @@
--- Each method is written by its number.
-use Rattle.aom_figures.specs.Methods.{method_text}
-use Rattle.aom_figures.proofs.GraphGrowing.{each_more}
-use Rattle.aom_figures.proofs.method.put_methods.Goals as goal
-
-pub loop-index-preserved : goal.loop-index-preserved
-loop-index-preserved c = each_more (method_text c.args.names.now c.args.linked.now c.args.figures.now)
-    _ _ _ _ _ _ _ c.method_number.ensures c.loop-index-test.true c.index-methods-index.is c.loop-index.invariant c.in_ok-put_method.ensures

@@ -1,7 +1,0 @@
-use Rattle.std.proofs.Common.{rules}
-use Rattle.aom_figures.specs.Over.{color_text}
-use Rattle.aom_figures.proofs.over.put_color.Goals as goal
-
-pub returns-then-is_over : goal.returns-then-is_over
-unfolding color_text
-returns-then-is_over c = search rules

@@ -1,3 +1,0 @@
-pub mod Injections
-pub mod Planned
-pub mod Tallies

@@ -1,0 +1,25 @@
+//! Linking: what an image must keep between its classes and methods before its instructions are looked at.
+//!
+//! `check_conditions` answers the main of an image that keeps the conditions, or the first one that it fails, and `link_place` where it fails that. What a class's method of a
+//! role is, and what overrides a method, is said here too.
+//! Nothing here knows of cells, frames or the state of a register.
+#![tactic(auto)]
+
+mod call_order;
+mod conditions;
+mod families;
+mod fault;
+mod jumps;
+mod loops;
+mod needs;
+mod orders;
+mod overriding;
+mod place;
+mod roles;
+mod same;
+
+pub use conditions::check_conditions;
+pub use fault::LinkFault;
+pub use overriding::{leads_to, overridden_method};
+pub use place::{LinkPlace, link_place};
+pub use roles::find_role;

@@ -1,7 +1,0 @@
-mod Behind
-mod Lines
-mod PlainWords
-mod Split
-mod Stated
-mod Targets
-pub mod ListingLemmas

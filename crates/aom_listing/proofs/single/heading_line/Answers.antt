@@ -1,5 +1,0 @@
-use Rattle.std.proofs.Common.{rules}
-use Rattle.aom_listing.proofs.single.heading_line.Goals as goal
-
-pub returns : goal.returns
-returns c = search rules

@@ -1,7 +1,0 @@
-use Rattle.std.proofs.Common.{◌≡◌, ◌++◌, take}
-use Rattle.aom_listing.specs.Classes.{class_words}
-use Rattle.aom_listing.specs.Listing.{lines_text, placed}
-use Rattle.aom_listing.proofs.writer.ListingWriter.classes.Given as goal
-
-abbrev pub invariant-loop-place : goal.invariant-loop-place
-invariant-loop-place l = l.self ≡ l.fn.self ++ lines_text (placed class_words 0 (take l.place l.classes))

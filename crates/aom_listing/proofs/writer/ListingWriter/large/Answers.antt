@@ -1,5 +1,0 @@
-use Rattle.std.proofs.Common.{rules}
-use Rattle.aom_listing.proofs.writer.ListingWriter.large.Goals as goal
-
-pub returns-in-Method : goal.returns-in-Method
-returns-in-Method c = search rules

@@ -1,6 +1,0 @@
-use Rattle.std.proofs.Common.{◌≡◌}
-use Rattle.aom_machine.specs.Servers.{AreRead, told_first}
-use Rattle.aom_machine.proofs.servers.tell_words.Given as goal
-
-abbrev pub invariant-loop-word : goal.invariant-loop-word
-invariant-loop-word l = record { told : l.frame ≡ told_first l.messages l.message l.word l.fn.frame; read : AreRead l.messages l.message l.word }

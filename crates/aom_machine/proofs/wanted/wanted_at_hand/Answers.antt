@@ -1,5 +1,0 @@
-use Rattle.std.proofs.Common.{rules}
-use Rattle.aom_machine.proofs.wanted.wanted_at_hand.Goals as goal
-
-pub returns-in-Some-Destroy : goal.returns-in-Some-Destroy
-returns-in-Some-Destroy c = search rules

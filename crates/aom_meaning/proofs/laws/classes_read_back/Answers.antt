@@ -1,5 +1,0 @@
-use Rattle.aom_meaning.proofs.ClassesBack.{class_statement_reads}
-use Rattle.aom_meaning.proofs.laws.classes_read_back.Goals as goal
-
-pub returns : goal.returns
-returns c = class_statement_reads

@@ -1,5 +1,0 @@
-use Rattle.aom_meaning.proofs.HeadersBack.{header_reads}
-use Rattle.aom_meaning.proofs.laws.headers_read_back.Goals as goal
-
-pub returns : goal.returns
-returns c classes methods scope names = header_reads names

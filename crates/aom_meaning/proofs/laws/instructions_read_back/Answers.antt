@@ -1,5 +1,0 @@
-use Rattle.aom_meaning.proofs.Statements.{instruction_reads}
-use Rattle.aom_meaning.proofs.laws.instructions_read_back.Goals as goal
-
-pub returns : goal.returns
-returns c classes methods scope names version code place i few within there fits = instruction_reads names version code few place i within there fits

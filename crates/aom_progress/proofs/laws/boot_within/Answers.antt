@@ -1,5 +1,0 @@
-use Rattle.aom_progress.proofs.Within.{boot_within as law}
-use Rattle.aom_progress.proofs.laws.boot_within.Goals as goal
-
-pub returns : goal.returns
-returns c = law

@@ -1,5 +1,0 @@
-use Rattle.aom_progress.proofs.Goings.{cells_stand_or_go as law}
-use Rattle.aom_progress.proofs.laws.cells_stand_or_go.Goals as goal
-
-pub returns : goal.returns
-returns c = law

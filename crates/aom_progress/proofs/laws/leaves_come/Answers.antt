@@ -1,5 +1,0 @@
-use Rattle.aom_progress.proofs.Arriving.{leaves_come as law}
-use Rattle.aom_progress.proofs.laws.leaves_come.Goals as goal
-
-pub returns : goal.returns
-returns c = law

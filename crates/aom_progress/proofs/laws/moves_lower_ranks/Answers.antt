@@ -1,5 +1,0 @@
-use Rattle.aom_progress.proofs.Ranking.{moves_lower_ranks as law}
-use Rattle.aom_progress.proofs.laws.moves_lower_ranks.Goals as goal
-
-pub returns : goal.returns
-returns c = law

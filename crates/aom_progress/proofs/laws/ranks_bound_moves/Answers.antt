@@ -1,5 +1,0 @@
-use Rattle.aom_progress.proofs.Ranking.{ranks_bound_moves as law}
-use Rattle.aom_progress.proofs.laws.ranks_bound_moves.Goals as goal
-
-pub returns : goal.returns
-returns c = law

@@ -1,5 +1,0 @@
-use Rattle.aom_progress.proofs.Turns.{turns_pay as law}
-use Rattle.aom_progress.proofs.laws.turns_pay.Goals as goal
-
-pub returns : goal.returns
-returns c = law

@@ -1,5 +1,0 @@
-use Rattle.aom_progress.proofs.Runs.{typed_runs_well as law}
-use Rattle.aom_progress.proofs.laws.typed_runs_well.Goals as goal
-
-pub returns : goal.returns
-returns c = law

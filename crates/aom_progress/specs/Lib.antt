@@ -1,9 +1,0 @@
-pub mod Within
-pub mod Worths
-pub mod Ranks
-pub mod RankLaws
-pub mod Leaves
-pub mod Runs
-pub mod Left
-pub mod Payers
-pub mod Laws

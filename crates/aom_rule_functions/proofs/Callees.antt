@@ -1,0 +1,36 @@
+-- In a well-formed image the method of each call is there, and so is the register of a trap's code.
+use Rattle.std.proofs.lemmas.Bool.Decides.{nat_tests}
+use Rattle.std.proofs.Common.{arith, ◌≡◌, ℕ, length, Some}
+use Rattle.aom_image.specs.Image.{Image}
+use Rattle.aom_image.specs.Views.{instr_at, method_at}
+use Rattle.aom_image.specs.WellFormed.{WellFormed, MethodFits}
+use Rattle.aom_instructions.specs.Fits.{InstrFits, limits}
+use Rattle.aom_instructions.specs.Table.{action_of}
+use Rattle.aom_instructions.specs.declared.instr.Instr.{Instr}
+use Rattle.aom_instructions.specs.declared.limits.Limits.{Limits}
+use Rattle.aom_rule_functions.proofs.LinkConditionsLemmas.{all_there, of_method}
+use Rattle.aom_rule_functions.proofs.AbstractStateLemmas.{there}
+use Rattle.aom_typing_rules.specs.Calls.{HasCallee, HasCodeRegister}
+
+has_callee : (p : Image) (n : ℕ) (i : Instr) → InstrFits (limits p.header.version (length p.classes) (length p.methods) n) i → HasCallee p (action_of i)
+unfolding method_at
+has_callee p n x fits = grind (arith, nat_tests, there p.methods)
+
+pub callee_there : (p : Image) (m pc : ℕ) (i : Instr) → WellFormed p → instr_at p m pc ≡ Some i → HasCallee p (action_of i)
+unfolding method_at
+callee_there p m pc i formed e =
+    let w = of_method p m pc i e in
+    let method = all_there (MethodFits p.header.version (length p.classes) (length p.methods)) p.methods m w.0 formed.methods.each w.1 in
+    has_callee p (length w.0.code) i
+    (all_there (InstrFits (limits p.header.version (length p.classes) (length p.methods) (length w.0.code))) w.0.code pc i method.code w.2)
+
+code_register : (l : Limits) (i : Instr) → InstrFits l i → HasCodeRegister (action_of i)
+code_register l x fits = grind arith
+
+pub code_register_there : (p : Image) (m pc : ℕ) (i : Instr) → WellFormed p → instr_at p m pc ≡ Some i → HasCodeRegister (action_of i)
+unfolding method_at
+code_register_there p m pc i formed e =
+    let w = of_method p m pc i e in
+    let method = all_there (MethodFits p.header.version (length p.classes) (length p.methods)) p.methods m w.0 formed.methods.each w.1 in
+    let l = limits p.header.version (length p.classes) (length p.methods) (length w.0.code) in
+    code_register l i (all_there (InstrFits l) w.0.code pc i method.code w.2)

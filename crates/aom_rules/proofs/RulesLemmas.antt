@@ -1,6 +1,0 @@
--- The lemmas that other crates cite; what else stands in these proofs is the crate's own.
-pub use Rattle.aom_rules.proofs.Telling.{filled_more, none_from}
-pub use Rattle.aom_rules.proofs.Ways.{Leads, leads}
-pub use Rattle.aom_rules.proofs.Monotone.{flows_more, needs_more}
-pub use Rattle.aom_rules.proofs.Branching.{by_states}
-pub use Rattle.aom_rules.proofs.Growing.{arguments_leave, at_most_one_more, lasting_has}

@@ -1,6 +1,0 @@
-use Rattle.std.proofs.lemmas.Grind.{common_steps}
-use Rattle.std.proofs.Common.{arith}
-use Rattle.aom_shape.proofs.flow.judge_all.Goals as goal
-
-pub loop-holds-preserved : goal.loop-holds-preserved
-loop-holds-preserved c = grind (arith, common_steps)

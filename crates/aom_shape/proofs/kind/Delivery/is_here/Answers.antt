@@ -1,5 +1,0 @@
-use Rattle.std.proofs.Common.{rules}
-use Rattle.aom_shape.proofs.kind.Delivery.is_here.Goals as goal
-
-pub returns-in-Gone : goal.returns-in-Gone
-returns-in-Gone c = search rules

@@ -1,5 +1,0 @@
-use Rattle.std.proofs.Common.{rules}
-use Rattle.aom_shape.proofs.kind.Filling.kind.Goals as goal
-
-pub returns-in-Perhaps : goal.returns-in-Perhaps
-returns-in-Perhaps c = search rules

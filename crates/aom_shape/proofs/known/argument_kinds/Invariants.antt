@@ -1,5 +1,0 @@
-use Rattle.aom_shape.proofs.Starting.{Placed}
-use Rattle.aom_shape.proofs.known.argument_kinds.Given as goal
-
-abbrev pub invariant-loop-index : goal.invariant-loop-index
-invariant-loop-index l = Placed l.arguments l.kinds l.index

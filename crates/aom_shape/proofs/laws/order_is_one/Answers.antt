@@ -1,5 +1,0 @@
-use Rattle.aom_shape.proofs.Ordering.{reflexive, transitive}
-use Rattle.aom_shape.proofs.laws.order_is_one.Goals as goal
-
-pub returns : goal.returns
-returns c = record { reflexive = reflexive; transitive = transitive }

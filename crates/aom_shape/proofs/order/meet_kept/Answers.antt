@@ -1,7 +1,0 @@
-use Rattle.aom_shape.proofs.order.meet_kept.Goals as goal
-
-pub returns-clause-ok : goal.returns-clause-ok
-returns-clause-ok c = c.meet_if.ensures.ok _ _ c.are_same.ensures
-
-pub returns-clause-err : goal.returns-clause-err
-returns-clause-err c = c.meet_if.ensures.err _ _ c.are_same.ensures

@@ -1,5 +1,0 @@
-use Rattle.aom_shape.specs.Meet.{Met}
-use Rattle.aom_shape.proofs.order.meet_kinds.Given as goal
-
-abbrev pub invariant-loop-index : goal.invariant-loop-index
-invariant-loop-index l = Met l.a l.b l.kinds l.index

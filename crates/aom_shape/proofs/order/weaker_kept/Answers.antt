@@ -1,4 +1,0 @@
-use Rattle.aom_shape.proofs.order.weaker_kept.Goals as goal
-
-pub returns : goal.returns
-returns c = c.weaker_if.ensures _ _ c.are_same.ensures

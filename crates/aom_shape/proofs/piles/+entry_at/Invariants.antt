@@ -1,5 +1,0 @@
--- The number falls.
-use Rattle.aom_shape.proofs.piles.+entry_at.Given as goal
-
-abbrev pub decreases-entry_at : goal.decreases-entry_at
-decreases-entry_at l = l.number

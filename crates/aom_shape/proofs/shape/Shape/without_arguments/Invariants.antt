@@ -1,6 +1,0 @@
-use Rattle.std.proofs.Common.{◌≡◌, ◌+◌, drop}
-use Rattle.aom_shape.specs.Arguments.{arguments_moved}
-use Rattle.aom_shape.proofs.shape.Shape.without_arguments.Given as goal
-
-abbrev pub invariant-loop-index : goal.invariant-loop-index
-invariant-loop-index l = arguments_moved l.arguments l.first l.initial.left ≡ arguments_moved (drop l.index l.arguments) (l.first + l.index) l.left

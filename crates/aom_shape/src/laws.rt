@@ -1,7 +1,0 @@
-//! The law of the order, as a contract.
-ghost use Rattle.aom_shape.specs.Laws.{IsOrder};
-
-/// Saying no more is reflexive and transitive.
-pub fn order_is_one()
-    ensures { IsOrder }
-{}

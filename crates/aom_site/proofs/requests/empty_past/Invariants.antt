@@ -1,6 +1,0 @@
-use Rattle.std.proofs.Common.{◌≡◌}
-use Rattle.aom_rules.specs.Calls.{empty_past}
-use Rattle.aom_site.proofs.requests.empty_past.Given as goal
-
-abbrev pub invariant-loop-index : goal.invariant-loop-index
-invariant-loop-index l = empty_past l.past l.declared l.fillings ≡ empty_past l.index l.declared l.fillings

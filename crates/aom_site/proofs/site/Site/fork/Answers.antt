@@ -1,5 +1,0 @@
-use Rattle.std.proofs.Common.{rules}
-use Rattle.aom_site.proofs.site.Site.fork.Goals as goal
-
-pub returns : goal.returns
-returns c = search rules

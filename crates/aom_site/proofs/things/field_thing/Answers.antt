@@ -1,6 +1,0 @@
-use Rattle.std.proofs.Common.{rules}
-use Rattle.aom_site.proofs.ShapeLemmas.{holder_there}
-use Rattle.aom_site.proofs.things.field_thing.Goals as goal
-
-pub returns : goal.returns
-returns c = search (rules, holder_there)

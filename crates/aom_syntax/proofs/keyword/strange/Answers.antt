@@ -1,8 +1,0 @@
--- A word that is neither keyword nor mnemonic is none of the language.
-use Rattle.std.proofs.Common.{rules}
-use Rattle.aom_syntax.specs.Keywords.{strange}
-use Rattle.aom_syntax.proofs.keyword.strange.Goals as goal
-
-pub returns-else-is_some-2 : goal.returns-else-is_some-2
-unfolding strange
-returns-else-is_some-2 c = search rules

@@ -1,0 +1,9 @@
+pub mod Within
+pub mod RankTerms
+pub mod Ranks
+pub mod RankLaws
+pub mod Leaves
+pub mod Runs
+pub mod Left
+pub mod BudgetOwners
+pub mod Laws

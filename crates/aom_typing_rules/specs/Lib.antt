@@ -1,0 +1,14 @@
+pub mod Beginning
+pub mod Calls
+pub mod RuleContext
+pub mod Words
+pub mod Objects
+pub mod Cleanup
+pub mod Requests
+pub mod Natives
+pub mod Messages
+pub mod Ways
+pub mod Finding
+pub mod Rules
+pub mod Typing
+pub mod Laws

@@ -1,5 +1,0 @@
-use Rattle.aom_typings.proofs.Worked.{price_needs_fail as law}
-use Rattle.aom_typings.proofs.laws.price_needs_fail.Goals as goal
-
-pub returns : goal.returns
-returns c = law

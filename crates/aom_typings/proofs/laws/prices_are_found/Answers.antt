@@ -1,5 +1,0 @@
-use Rattle.aom_typings.proofs.Making.{law_found as law}
-use Rattle.aom_typings.proofs.laws.prices_are_found.Goals as goal
-
-pub returns : goal.returns
-returns c = law

@@ -1,5 +1,0 @@
-use Rattle.aom_typings.proofs.Typings.{says_most as law}
-use Rattle.aom_typings.proofs.laws.strongest_says_most.Goals as goal
-
-pub returns : goal.returns
-returns c = law

@@ -1,5 +1,0 @@
-use Rattle.aom_typings.proofs.Capping.{law_up_to as law}
-use Rattle.aom_typings.proofs.laws.swept_up_to_is_price.Goals as goal
-
-pub returns : goal.returns
-returns c = law
