@@ -3,6 +3,7 @@
 import os
 import re
 import threading
+import time
 
 from house import House
 from keeping import Keeping
@@ -19,6 +20,8 @@ class Following:
         self.house, self.lanes, self.place = house, lanes, place
         self.libraries = House(top)
         self.proved, self.failed = set(), {}
+        # when it was told of each that it is proved
+        self.start_time, self.times_told = time.monotonic(), {}
         self.wanted, self.begun = [], set()
         self.keeping = None
         self.lock = threading.Lock()
@@ -36,6 +39,7 @@ class Following:
             return
         if told[2] != "NOT PROVED":
             self.proved.add(told[1])
+            self.times_told.setdefault(told[1], time.monotonic())
             self.tell_proved(told[1])
             self.hand_on()
         else:
@@ -68,6 +72,16 @@ class Following:
             self.keeping = Keeping(self.house, self.lanes, self.place)
             self.keeping.start(left, self.tell_ready, self.tell_proved, self.tell_failed)
         self.lanes.release()
+
+    def longest_chain(self):
+        """The crates of which each waited for the one before it, to the last that was proved, each with the seconds from then on."""
+        found, at = [], self.times_told
+        name = max(at, key=at.get, default=None)
+        while name:
+            before = max((it for it in self.house.direct[name] if it in at), key=at.get, default=None)
+            found.append((name, at[name] - (at[before] if before else self.start_time)))
+            name = before
+        return found[::-1]
 
     def times(self):
         return self.keeping.times() if self.keeping else (0, 0.0)

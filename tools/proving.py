@@ -50,11 +50,12 @@ class Proofs:
         self.seconds = time.monotonic() - start
 
 
-def prove_and_try(place, jobs, anew, say, show, verdicts_at=None):
-    """Proves the copy `proofs` of a folder, and tries the edits of its copy `edits`, each once rt ci has proved what it stands on: the run of rt ci, and the trial. Proofs come first."""
+def prove_and_try(place, jobs, anew, say, show, verdicts_at=None, until=None):
+    """Proves the copy `proofs` of a folder, and tries the edits of its copy `edits`, each once rt ci has proved what it stands on: the run of rt ci, and the trial. Proofs come first.
+    From the given time on no check of an edit begins."""
     house, proofs = House(f"{place}/edits"), Proofs(f"{place}/proofs", jobs, anew, verdicts_at)
     following = Following(house, proofs.top, Lanes(jobs, say), place)
-    trial = Trial(house, list(house.direct), following, place, say, Verdicts(house, verdicts_at, anew))
+    trial = Trial(house, list(house.direct), following, place, say, Verdicts(house, verdicts_at, anew), until)
     trial.begin()
 
     def hear(line):

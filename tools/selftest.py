@@ -1,10 +1,12 @@
 """The test of the gate's own tools: a small repository of which one crate is false, and whose edits are known to be refused, or must not pass;
 and of what is kept of its proofs."""
 
+import os
 import re
 import shutil
 
 from edit_files import write_text
+from freshness import PROGRAM, is_fresh, texts_sum, write_record
 from proving import Proofs, prove_and_try
 from quick_rt import keeps_proofs
 from showing import ANSWER, GOAL, NAME
@@ -169,6 +171,46 @@ def keeping_is_well(top, jobs, tell):
     return kept == ["sample"] and (again.passed, again.failed) == (2, 1)
 
 
+# a tree of a program: the program, a crate below it and one that it does not use
+TREE = {
+    "crates.txt": "low:\naom: low\nother: low\n",
+    "HANDLES": "Handles allowed: none.\n",
+    "crates/low/src/lib.rt": "low\n",
+    "crates/aom/src/main.rt": "main\n",
+    "crates/other/src/lib.rt": "other\n",
+    PROGRAM: "#!/bin/sh\n",
+}
+# what is done to that tree, and whether its program is still what it makes
+CHANGES = [
+    ("a crate that the program does not use", lambda top: write_text(f"{top}/crates/other/src/lib.rt", "more\n"), True),
+    ("a file that is new", lambda top: write_text(f"{top}/crates/low/proofs/Lib.antt", ""), False),
+    ("that file gone again", lambda top: os.unlink(f"{top}/crates/low/proofs/Lib.antt"), True),
+    ("a file that is older, with another text", lambda top: write_as_old(f"{top}/crates/low/src/lib.rt", "lower\n"), False),
+    ("its text as it was", lambda top: write_text(f"{top}/crates/low/src/lib.rt", "low\n"), True),
+    ("another program", lambda top: write_text(f"{top}/{PROGRAM}", "#!/bin/sh\nfalse\n"), False),
+]
+
+
+def write_as_old(file, text):
+    write_text(file, text)
+    os.utime(file, (0, 0))
+
+
+def freshness_is_well(top, tell):
+    """Whether a program is fresh just where its tree and it are as they were when it was made."""
+    for file, text in TREE.items():
+        write_text(f"{top}/{file}", text)
+    os.chmod(f"{top}/{PROGRAM}", 0o755)
+    found = [is_fresh(f"{top}/{PROGRAM}", top)]
+    write_record(f"{top}/{PROGRAM}", "yes", texts_sum(top), "")
+    found.append(is_fresh(f"{top}/{PROGRAM}", top))
+    for name, change, wanted in CHANGES:
+        change(top)
+        found.append(is_fresh(f"{top}/{PROGRAM}", top))
+        tell(f"after {name}: the program is {'fresh' if found[-1] else 'stale'}, as it must be" if found[-1] == wanted else f"after {name}: WRONG")
+    return found == [False, True, *(wanted for _, _, wanted in CHANGES)]
+
+
 def tools_are_well(place, jobs, say):
     """Whether just the edits that are wrong come out as refused, just the crate that is false as not proved, and just what has not changed as kept."""
     top = f"{place}/selftest"
@@ -185,4 +227,4 @@ def tools_are_well(place, jobs, say):
     wanted = {f"{crate}/{name}.edit": kind for crate, name, *_, kind in EDITS if kind}
     is_told = {it: trial.kinds[it] for it in trial.passed} == wanted and len(trial.failed) == len(EDITS) - len(wanted)
     is_told = is_told and trial.unshown == ["sample/again-without-a-page.edit"] and (proofs.passed, proofs.failed) == (2, 1)
-    return is_told and keeping_is_well(top, jobs, tell)
+    return is_told and keeping_is_well(top, jobs, tell) and freshness_is_well(f"{place}/fresh", tell)

@@ -4,6 +4,7 @@ import os
 import shutil
 import tempfile
 import threading
+import time
 
 import rattle
 from batches import plan, refused_at, shown, texts_of, unread
@@ -17,16 +18,20 @@ from verdicts import Verdicts
 # the memory that a check takes for each line of a crate, in bytes
 LINE = 300_000
 KINDS = ("batches", "side by side", "by one function", "whole")
+# what comes before the edits of other crates: those that the last run had no time for
+FIRST = 10**8
 
 
 class Trial:
-    """A run over the edits of some crates of a clean copy. The source says which crates are proved and can be tried. Copies are made and dropped in the given folder; what earlier runs here saw refused is not tried again."""
+    """A run over the edits of some crates of a clean copy. The source says which crates are proved and can be tried. Copies are made and dropped in the given folder; what earlier runs here saw refused is not tried again. From the given time on no check of an edit begins."""
 
-    def __init__(self, house, names, source, place, say, verdicts=None):
+    def __init__(self, house, names, source, place, say, verdicts=None, until=None):
         self.house, self.source, self.place, self.say = house, source, place, say
         self.lanes = source.lanes
         self.verdicts = verdicts or Verdicts(house, None)
         self.passed, self.failed = [], []
+        # when no more is begun, and what was left out for that
+        self.until, self.untried = until, []
         # by what each was refused, and those that neither their contract nor a page or a test shows
         self.kinds, self.unshown = {}, []
         self.seconds, self.checks = dict.fromkeys(KINDS, 0.0), dict.fromkeys(KINDS, 0)
@@ -39,6 +44,7 @@ class Trial:
         self.known = {it: self.known_of(it) for it in self.names}
         self.weight = {it: house.lines(it) for it in self.names}
         self.places = {it: places_of(house.folder(it)) for it in self.names}
+        self.waited = {it.split("/")[0] for it in self.verdicts.untried()}
 
     def known_of(self, name):
         """The edits of a crate that an earlier run saw refused, as it and they stand."""
@@ -55,13 +61,19 @@ class Trial:
         self.source.start([it for it in self.names if self.left_of(it)], self.add_edits, self.count, self.give_up)
 
     def run(self):
-        """Tries all; what the source never handed on fails."""
+        """Tries all; what the source never handed on fails. What there was no time for is told apart, and the next run here begins with it."""
         self.lanes.run()
-        told = {*self.passed, *self.failed}
-        for name in self.names:
-            for it in self.left_of(name):
-                if f"{name}/{it}" not in told:
-                    self.tell(name, it, False, "NOT TRIED")
+        told, is_late = {*self.passed, *self.failed}, self.is_late()
+        for name, it in ((name, it) for name in self.names for it in self.left_of(name) if f"{name}/{it}" not in told):
+            if is_late and name not in self.given_up:
+                self.untried.append(f"{name}/{it}")
+                self.say(f"must-fail {name}/{it}: not tried, for want of time")
+            else:
+                self.tell(name, it, False, "NOT TRIED")
+        self.verdicts.keep_untried(self.untried)
+
+    def is_late(self):
+        return self.until is not None and time.monotonic() > self.until
 
     def times(self):
         """What was done, how often, and the seconds that it took of a processor."""
@@ -157,8 +169,8 @@ class Trial:
 
     def add(self, name, more, work):
         """Puts a check of a crate in the lanes. It falls where the crate turns out not to be proved."""
-        needs = 10**9 + LINE * self.weight[name]
-        self.lanes.add(self.weight[name] + more, lambda: name in self.given_up or work(), needs)
+        needs, first = 10**9 + LINE * self.weight[name], FIRST if name in self.waited else 0
+        self.lanes.add(self.weight[name] + more + first, lambda: name in self.given_up or self.is_late() or work(), needs)
 
     def add_batch(self, name, batch, copies=()):
         """Adds the check of a batch, and of copies beside it."""

@@ -71,8 +71,33 @@ class Verdicts:
             return
         try:
             os.makedirs(self.at, exist_ok=True)
-            with tempfile.NamedTemporaryFile("w", dir=self.at, delete=False, encoding="utf-8") as it:
-                json.dump([name, edit, "refused", kind], it)
-            os.replace(it.name, self.file_of(name, edit))
+            write_whole(self.file_of(name, edit), json.dumps([name, edit, "refused", kind]))
         except OSError:
             pass
+
+    # what a run had no time for
+
+    def untried(self):
+        """The edits for which the last run here had no time, each with its crate."""
+        try:
+            with open(f"{self.at}/untried", encoding="utf-8") as it:
+                return it.read().split()
+        except OSError:
+            return []
+
+    def keep_untried(self, names):
+        """Keeps which edits a run had no time for, in place of those of the run before."""
+        if not self.at or names == self.untried():
+            return
+        try:
+            os.makedirs(self.at, exist_ok=True)
+            write_whole(f"{self.at}/untried", "".join(f"{it}\n" for it in names))
+        except OSError:
+            pass
+
+
+def write_whole(file, text):
+    """Writes a file in one step: whoever reads it meanwhile finds what stood there before, whole."""
+    with tempfile.NamedTemporaryFile("w", dir=os.path.dirname(file), delete=False, encoding="utf-8") as it:
+        it.write(text)
+    os.replace(it.name, file)
