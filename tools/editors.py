@@ -1,8 +1,12 @@
-"""A Vim syntax and a TextMate grammar of assembly texts, made from the table of instructions and the words of texts."""
+"""What editors need for assembly texts and scripts, made from the table of instructions, the words of texts and the lines of scripts: files for Vim, a mode
+for Emacs, a TextMate grammar, and a folder for VS Code."""
 
 import json
+import re
 
 import form
+
+SCRIPTS_PAGE = "docs/script-and-transcript.md"
 
 # words that begin a statement outside methods, or end one
 DECLARING = ("image", "class", "method", "end")
@@ -37,8 +41,102 @@ let b:current_syntax = "aom"
 """
 
 VIM_FILES = """\
-" assembly texts of aom, made by tools/manual
+" assembly texts and scripts of aom, made by tools/manual
 autocmd BufRead,BufNewFile *.aom setfiletype aom
+autocmd BufRead,BufNewFile *.script if search('\\v^\\s*%(refuse\\s+\\d|\\d+\\s+%({words})>)', 'nw') | setfiletype aomscript | endif
+"""
+
+VIM_PLUGIN = """\
+" how assembly texts of aom are edited and checked, made by tools/manual
+if exists("b:did_ftplugin")
+  finish
+endif
+let b:did_ftplugin = 1
+setlocal commentstring=#\\ %s comments=:#
+compiler aom
+let b:undo_ftplugin = "setlocal commentstring< comments< makeprg< errorformat<"
+"""
+
+VIM_COMPILER = """\
+" :make leads to the line of a fault, made by tools/manual
+if exists("current_compiler")
+  finish
+endif
+let current_compiler = "aom"
+CompilerSet makeprg=aom\\ check\\ --lines\\ --asm\\ %:S
+CompilerSet errorformat=%f:%l:\\ %m,%f:\\ %m,%-G%.%#
+"""
+
+VIM_SCRIPTS = """\
+" syntax of aom's scripts, made by tools/manual
+if exists("b:current_syntax")
+  finish
+endif
+
+syn match aomScriptNumber "\\v<-?\\d+>|-\\d+>"
+syn match aomScriptWord "\\v%(%(^|\\s))@<=%({words})>"
+syn match aomScriptTime "\\v^\\s*\\d+>"
+
+hi def link aomScriptNumber Number
+hi def link aomScriptWord Statement
+hi def link aomScriptTime Label
+
+let b:current_syntax = "aomscript"
+"""
+
+EMACS = r""";;; aom-mode.el --- assembly texts of aom  -*- lexical-binding: t; -*-
+
+;; made by tools/manual
+
+;;; Commentary:
+;; Colours, comments, and a compile command that leads to the line of a fault.
+
+;;; Code:
+
+(defconst aom-mode-words
+  '({words})
+  "Words of declarations.")
+
+(defconst aom-mode-declaring
+  '({declaring})
+  "Words that begin or end a declaration.")
+
+(defconst aom-mode-instructions
+  '({instructions})
+  "Mnemonics.")
+
+(defvar aom-mode-syntax-table
+  (let ((table (make-syntax-table)))
+    (modify-syntax-entry ?# "<" table)
+    (modify-syntax-entry ?\n ">" table)
+    (modify-syntax-entry ?_ "w" table)
+    table)
+  "Syntax of assembly texts.")
+
+(defvar aom-mode-font-lock
+  `((,(concat "\\(?:^\\|;\\)\\s-*\\(" (regexp-opt aom-mode-declaring) "\\)\\_>") 1 font-lock-keyword-face)
+    ("\\_<\\(?:class\\|method\\)\\s-+\\(\\sw+\\)" 1 font-lock-function-name-face)
+    ("\\(?:^\\|;\\)\\s-*\\(\\sw+\\s-*:\\)" 1 font-lock-constant-face)
+    (,(concat "\\(?:^\\|[;:]\\)\\s-*\\(" (regexp-opt aom-mode-instructions) "\\)\\_>") 1 font-lock-builtin-face)
+    ("\\_<\\(?:[rc]\\(?:1[0-5]\\|[0-9]\\)\\|[wf][0-7]\\)\\_>" . font-lock-variable-name-face)
+    (,(regexp-opt aom-mode-words 'symbols) . font-lock-type-face))
+  "Colours of assembly texts.")
+
+;;;###autoload
+(define-derived-mode aom-mode prog-mode "aom"
+  "Mode for assembly texts of aom."
+  (setq-local comment-start "# ")
+  (setq-local comment-end "")
+  (setq-local font-lock-defaults '(aom-mode-font-lock))
+  (when buffer-file-name
+    (setq-local compile-command
+                (concat "aom check --lines --asm " (shell-quote-argument (file-name-nondirectory buffer-file-name))))))
+
+;;;###autoload
+(add-to-list 'auto-mode-alist '("\\.aom\\'" . aom-mode))
+
+(provide 'aom-mode)
+;;; aom-mode.el ends here
 """
 
 
@@ -56,8 +154,65 @@ def vim():
     return VIM.format(words="|".join(words()), declaring="|".join(DECLARING), instructions="|".join(mnemonics()), registers=registers)
 
 
+def script_words():
+    """The words of a script's lines, as the page of scripts has them."""
+    found = [it for line, _ in form.table_of(SCRIPTS_PAGE, "Lines") for it in re.findall(r"[a-z]+", line) if line.startswith("`")]
+    return sorted(set(found))
+
+
 def vim_files():
-    return VIM_FILES
+    return VIM_FILES.format(words="|".join(it for it in script_words() if it != "refuse"))
+
+
+def vim_plugin():
+    return VIM_PLUGIN
+
+
+def vim_compiler():
+    return VIM_COMPILER
+
+
+def vim_scripts():
+    return VIM_SCRIPTS.format(words="|".join(script_words()))
+
+
+def emacs():
+    def quoted(names):
+        return " ".join(f'"{it}"' for it in names)
+
+    return EMACS.format(words=quoted(words()), declaring=quoted(DECLARING), instructions=quoted(mnemonics()))
+
+
+# the folder for VS Code
+
+PROBLEMS = {
+    "name": "aom",
+    "owner": "aom",
+    "fileLocation": ["autoDetect", "${workspaceFolder}"],
+    "pattern": [{"regexp": r"^(.+?):(\d+): (.+)$", "file": 1, "line": 2, "message": 3}],
+}
+
+
+def told(content):
+    return json.dumps(content, indent=2) + "\n"
+
+
+def code_package():
+    language = {"id": "aom", "aliases": ["aom"], "extensions": [".aom"], "configuration": "./language-configuration.json"}
+    grammar = {"language": "aom", "scopeName": "source.aom", "path": "./syntaxes/aom.tmLanguage.json"}
+    contributes = {"languages": [language], "grammars": [grammar], "problemMatchers": [PROBLEMS]}
+    head = {"name": "aom", "displayName": "aom", "description": "Assembly texts of aom", "version": form.version(), "publisher": "lumetriko", "license": "MIT OR Apache-2.0"}
+    return told({**head, "engines": {"vscode": "^1.70.0"}, "categories": ["Programming Languages"], "contributes": contributes})
+
+
+def code_language():
+    return told({"comments": {"lineComment": "#"}})
+
+
+def code_tasks():
+    """For a workspace's own folder .vscode: a build task that leads to the line of a fault."""
+    task = {"label": "aom check", "type": "shell", "command": "aom check --lines --asm ${file}", "group": "build", "problemMatcher": "$aom"}
+    return told({"version": "2.0.0", "tasks": [task]})
 
 
 def pattern(name, match):

@@ -183,3 +183,11 @@ def table_of(page, heading):
     if len(rows) < 3:
         raise Unreadable(f"the table of {heading} in {page} is not found")
     return [[cell.strip() for cell in line.strip("|").split("|")] for line in rows[2:]]
+
+
+def version_date():
+    """The day of the version, as the list of changes has it."""
+    told = re.search(rf"^## {re.escape(version())} \((\d{{4}}-\d\d-\d\d)\)$", read("CHANGELOG.md"), re.MULTILINE)
+    if not told:
+        raise Unreadable(f"CHANGELOG.md has no day of version {version()}")
+    return told[1]

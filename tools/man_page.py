@@ -26,7 +26,7 @@ FILES = [
     ("*.aom", "Assembly texts: a program in ASCII, of at most 1 MiB."),
     ("*.image", "Images: the bytes that aom asm makes of a text."),
     ("*.script", "Scripts: what happens to a run from outside, line by line. An empty file is one."),
-    ("PREFIX/share/doc/aom", "The pages that --explain and this page name, and examples, below the folder into which aom was installed. Its first-hour.md is for beginners."),
+    ("share/doc/aom", "The pages that --explain and this page name, and examples, below the folder into which aom was installed. Its first-hour.md is for beginners."),
 ]
 
 
@@ -146,7 +146,7 @@ def man_page():
     commands = form.commands()
     name = "assembles, lists, checks, runs and debugs programs of active objects"
     parts = [
-        [f'.TH AOM 1 "" "aom {form.version()}" "User Commands"'],
+        [f'.TH AOM 1 "{form.version_date()}" "aom {form.version()}" "User Commands"'],
         section("NAME", [f"aom \\- {name}"]),
         section("SYNOPSIS", [line for it in commands for line in [synopsis_of(it.synopsis()), ".br"]][:-1]),
         section("DESCRIPTION", description()),
