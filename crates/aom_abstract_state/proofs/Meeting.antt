@@ -2,7 +2,7 @@
 use Rattle.std.proofs.Common.{◌≡◌, ◌≢◌, ℕ, ◌+◌, ◌<◌, true, false, List, length, slice_index_or, slice_set, Some, None, inl, inr, refl, sym, ◌∙◌, arith}
 use Rattle.std.proofs.lemmas.List.{length-set}
 use Rattle.std.proofs.lemmas.Bool.{false≢true}
-use Rattle.std.proofs.lemmas.Bool.Decides.{eqb_reports, leb_reports}
+use Rattle.std.proofs.lemmas.Bool.Decides.{eqb_tells, leb_tells}
 use Rattle.std.specs.Prelude.{bit_or}
 use Rattle.aom_abstract_state.specs.Kinds.{register, field}
 use Rattle.aom_abstract_state.specs.Meet.{Met, Unmet, MetFillings, IsMeet, NoMeet, ReasonNoMeet}
@@ -57,7 +57,7 @@ pub met_more : (a b m : List Kind) (i : ℕ) (x y r : Kind) →
     Met a b m i → i < 16 → length a ≡ 16 → length b ≡ 16 → meet_kind (slice_index_or a i x) (slice_index_or b i y) ≡ Some r → Met a b (slice_set m i r) (i + 1)
 met_more a b m i x y r h within la lb e = record {
   size = length-set m i r ∙ h.size;
-  each = λ k below. elim (eqb_reports k i) [
+  each = λ k below. elim (eqb_tells k i) [
     | inl w ↦ rw (w.1, ← at_within Unset x a i (omega arith), ← at_within Unset y b i (omega arith), at_set_here Unset m i r (omega (arith, h.size))) e
     | inr w ↦ rw (at_set_other Unset m i k r w.1) (h.each k (omega (arith, w.1)))
   ];
@@ -74,7 +74,7 @@ pub met_more_fillings : (a b m : List FieldState) (i : ℕ) (e : FieldState) →
     i < 8 → length a ≡ 8 → length b ≡ 8 → MetFillings a b (slice_set m i (meet_filling (slice_index_or a i e) (slice_index_or b i e))) (i + 1)
 met_more_fillings a b m i e h within la lb = record {
   size = length-set m i (meet_filling (slice_index_or a i e) (slice_index_or b i e)) ∙ h.size;
-  each = λ k below. elim (eqb_reports k i) [
+  each = λ k below. elim (eqb_tells k i) [
     | inl w ↦
         let here = at_set_here Perhaps m i (meet_filling (slice_index_or a i e) (slice_index_or b i e)) (omega (arith, h.size)) in
         rw (w.1, here, at_within Perhaps e a i (omega arith), at_within Perhaps e b i (omega arith))
@@ -102,7 +102,7 @@ filling_strongest : (x y n : FieldState) → WeakerFilling n x → WeakerFilling
 filling_strongest x y n h k = fillings_tested n (meet_filling x y) (both_fillings_pass x y n (fillings_test n x h) (fillings_test n y k))
 
 met_everywhere : (a b m : List Kind) → length a ≡ 16 → length b ≡ 16 → Met a b m 16 → (i : ℕ) → IsMeetKind (at Unset m i) (at Unset a i) (at Unset b i)
-met_everywhere a b m la lb h i = elim (leb_reports 16 i) [
+met_everywhere a b m la lb h i = elim (leb_tells 16 i) [
   | inr w ↦ meet_found (at Unset a i) (at Unset b i) (at Unset m i) (h.each i w.1)
   | inl w ↦ rw (at_past Unset a i (omega (arith, w.1)), at_past Unset b i (omega (arith, w.1)), at_past Unset m i (omega (arith, w.1, h.size)))
       (meet_found Unset Unset Unset refl)
@@ -110,7 +110,7 @@ met_everywhere a b m la lb h i = elim (leb_reports 16 i) [
 
 fillings_everywhere : (a b m : List FieldState) → length a ≡ 8 → length b ≡ 8 → MetFillings a b m 8 →
     (i : ℕ) → at Perhaps m i ≡ meet_filling (at Perhaps a i) (at Perhaps b i)
-fillings_everywhere a b m la lb h i = elim (leb_reports 8 i) [
+fillings_everywhere a b m la lb h i = elim (leb_tells 8 i) [
   | inr w ↦ h.each i w.1
   | inl w ↦ rw (at_past Perhaps a i (omega (arith, w.1)), at_past Perhaps m i (omega (arith, w.1, h.size)))
 ]
@@ -144,7 +144,7 @@ unmet a b h = (
 )
 
 pub kinds_meet : (a b m : List Kind) → length a ≡ 16 → length b ≡ 16 → Met a b m 16 → ¬ Unmet a b
-kinds_meet a b m la lb h missing = elim (leb_reports 16 missing.place) [
+kinds_meet a b m la lb h missing = elim (leb_tells 16 missing.place) [
   | inr w ↦ let found = h.each missing.place w.1 in let none = missing.none in cc
   | inl w ↦ let none = rw (at_past Unset a missing.place (omega (arith, w.1)), at_past Unset b missing.place (omega (arith, w.1))) at missing.none in cc
 ]

@@ -2,7 +2,7 @@
 use Rattle.std.proofs.Common.{◌≡◌, ℕ, zero, suc, ◌+◌, ◌<◌, ◌≤◌, List, [], ◌∷◌, length, map, replicate}
 use Rattle.std.proofs.Common.{slice_index_or, slice_set, Some, inl, inr, refl, sym, subst, ◌∙◌, arith}
 use Rattle.std.proofs.lemmas.List.{length-set}
-use Rattle.std.proofs.lemmas.Bool.Decides.{eqb_reports, leb_reports}
+use Rattle.std.proofs.lemmas.Bool.Decides.{eqb_tells, leb_tells}
 use Rattle.aom_image.specs.Image.{Image}
 use Rattle.aom_image.specs.WellFormed.{WellFormed, MethodFits}
 use Rattle.aom_abstract_state.proofs.LinkConditionsLemmas.{all_there}
@@ -56,7 +56,7 @@ one_placed arguments kinds i x h within fits e =
     let kind = argument_kind x in
     record {
       size = length-set kinds i kind ∙ h.size;
-      below = λ k below. elim (eqb_reports k i) [
+      below = λ k below. elim (eqb_tells k i) [
         | inl w ↦ rw (w.1, at_set_here Unset kinds i kind (omega (arith, h.size)), at_map arguments i x within, ← e)
         | inr w ↦ rw (at_set_other Unset kinds i k kind w.1) (h.below k (omega (arith, w.1)))
       ];
@@ -65,7 +65,7 @@ one_placed arguments kinds i x h within fits e =
 
 pub all_placed : (arguments : List Argument) (kinds : List Kind) (n : ℕ) → Placed arguments kinds n → length arguments ≤ n →
     (k : ℕ) → at Unset kinds k ≡ at Unset (map argument_kind arguments) k
-all_placed arguments kinds n h ended k = elim (leb_reports n k) [
+all_placed arguments kinds n h ended k = elim (leb_tells n k) [
   | inl w ↦ rw (h.above k w.1, map_past arguments k (omega (arith, w.1)))
   | inr w ↦ h.below k w.1
 ]

@@ -6,7 +6,7 @@ use Rattle.std.specs.Prelude.{◌||◌, count_by}
 use Rattle.std.proofs.lemmas.Bool.{eq-eqb, eqb-false, eqb-true, ne_eqb}
 use Rattle.std.proofs.lemmas.List.{get_or_past, take_all}
 use Rattle.std.proofs.lemmas.List.Sums.{count_by_more_no, count_by_more_yes}
-use Rattle.std.proofs.lemmas.Bool.Decides.{leb_reports}
+use Rattle.std.proofs.lemmas.Bool.Decides.{leb_tells}
 use Rattle.aom_scheduler.specs.Requests.{Table, holds_signal, request_at}
 use Rattle.aom_scheduler.specs.Requests as tables
 use Rattle.aom_scheduler.specs.declared.request.Request.{Request as Machine_request}
@@ -113,7 +113,7 @@ module _ (a : Active) (w : IsWhole a) (cs : List Cell) (queues : ℕ → Option 
 
   -- past the table nothing signals
   within : (n : ℕ) → signals_at cs n ≡ true → n < length a.table.slots
-  within n is = grind (arith, nat_tests, each n, get_or_past a.table.slots n None, leb_reports)
+  within n is = grind (arith, nat_tests, each n, get_or_past a.table.slots n None, leb_tells)
 
   pub same_count : tables.signals a.table ≡ signal_count cs
   same_count = counted holds_signal a.table.slots None ∙ same_counts held_signal (signals_at cs) (length a.table.slots) (λ i less. each i)

@@ -3,7 +3,7 @@ use Rattle.std.proofs.lemmas.Bool.Decides.{nat_tests}
 use Rattle.std.proofs.Common.{◌≡◌, ◌∙◌, ◌<◌, ◌≤◌, ◌+◌, ap, ap₂, ℕ, Bool, true, false, List, [], length, Option, Some, None, IsSome, refl, sym, subst, arith}
 use Rattle.aom_budget.proofs.ImageLemmas.{some_given}
 use Rattle.std.specs.Prelude.{min, slice_get, if◌then◌else◌}
-use Rattle.std.proofs.lemmas.Bool.Decides.{eqb_reports}
+use Rattle.std.proofs.lemmas.Bool.Decides.{eqb_tells}
 use Rattle.std.proofs.lemmas.Option.{slice_get_within, same_Some}
 use Rattle.aom_image.specs.Image.{Image}
 use Rattle.aom_image.specs.Views.{class_at, method_at}
@@ -207,7 +207,7 @@ module _ (p : Image) (prices : List ℕ) (k : ℕ) (class : ClassDecl) (is : cla
 
 -- one more is within
 pub classes_more : (p : Image) (prices : List ℕ) (count : ℕ) → ClassesWithin p prices count → IsWithin p prices (Class count) → ClassesWithin p prices (count + 1)
-classes_more p prices count below here k within = grind (arith, nat_tests, eqb_reports k count)
+classes_more p prices count below here k within = grind (arith, nat_tests, eqb_tells k count)
 
 -- ---- the test
 

@@ -4,7 +4,7 @@ use Rattle.std.proofs.Common.{List, cond, Some, ap, arith, length, refl, slice_s
 use Rattle.std.specs.Prelude.{max}
 use Rattle.std.proofs.Math.Nat.{mul-le-mul_left}
 use Rattle.std.proofs.lemmas.Bool.{cases_lt}
-use Rattle.std.proofs.lemmas.Bool.Decides.{eqb_reports}
+use Rattle.std.proofs.lemmas.Bool.Decides.{eqb_tells}
 use Rattle.aom_image.specs.Image.{Image}
 use Rattle.aom_image.specs.Views.{method_at}
 use Rattle.aom_image.specs.WellFormed.{WellFormed}
@@ -72,7 +72,7 @@ module _ (p : Image) (formed : WellFormed p) (prices : List ℕ) where
 module _ (p : Image) (ns : List ℕ) (m v : ℕ) (d : Method) (there : method_at p m ≡ Some d) where
   module _ (within : m < length ns) (low : at 0 ns m ≤ v) where
     price_grows : (k : ℕ) → at 0 ns k ≤ at 0 (slice_set ns m v) k
-    price_grows k = grind (arith, nat_tests, eqb_reports k m, at_set_here 0 ns m v within, at_set_other 0 ns m k v)
+    price_grows k = grind (arith, nat_tests, eqb_tells k m, at_set_here 0 ns m v within, at_set_other 0 ns m k v)
 
     pub destruction_grows : (x : Thing) → destruction_by p ns x ≤ destruction_by p (slice_set ns m v) x
     destruction_grows x =

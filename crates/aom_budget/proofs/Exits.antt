@@ -1,7 +1,7 @@
 -- The most over the places past a loop to which an instruction goes on.
 use Rattle.std.proofs.Common.{◌≡◌, ℕ, ◌<◌, ◌≤◌, ◌+◌, ◌⊎◌, cond, List, [], ◌∷◌, Some, None, inl, inr, refl, arith}
 use Rattle.std.specs.Prelude.{nat_lt}
-use Rattle.std.proofs.lemmas.Bool.Decides.{leb_reports}
+use Rattle.std.proofs.lemmas.Bool.Decides.{leb_tells}
 use Rattle.std.proofs.lemmas.Bool.{le-ltb, lt-ltb}
 use Rattle.aom_image.specs.Image.{Image}
 use Rattle.aom_image.specs.Views.{instr_at}
@@ -37,7 +37,7 @@ is_first_or_rest from last to rest n h = elim h.among [
 
 one_past : (from : List ℕ) (last to : ℕ) → cond (nat_lt last to) (at 0 from to) 0 ≤ 4294967296 →
     IsMost 4294967296 (PastOf from last (to ∷ [])) (cond (nat_lt last to) (at 0 from to) 0)
-one_past from last to low = elim (leb_reports to last) [
+one_past from last to low = elim (leb_tells to last) [
   | inl w ↦ rw (le-ltb last to w.1) (of_none 4294967296 (PastOf from last (to ∷ [])) (λ k h. elim h.among [
     | inl e ↦ let past : last < to = rw e at h.past in absurd (omega (arith, past, w.1))
     | inr none ↦ absurd none

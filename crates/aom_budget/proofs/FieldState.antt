@@ -2,7 +2,7 @@
 use Rattle.std.proofs.lemmas.Bool.Decides.{nat_tests}
 use Rattle.std.proofs.Common.{◌≡◌, ℕ, suc, ◌<◌, ◌+◌, List, length, Some, None, slice_index_or, slice_set, replicate, inl, inr, refl, sym, ap, ◌∙◌, subst, arith}
 use Rattle.std.specs.Prelude.{min}
-use Rattle.std.proofs.lemmas.Bool.Decides.{eqb_reports, leb_reports}
+use Rattle.std.proofs.lemmas.Bool.Decides.{eqb_tells, leb_tells}
 use Rattle.std.proofs.lemmas.List.{length-set, length-replicate}
 use Rattle.aom_image.specs.Image.{Image}
 use Rattle.aom_image.specs.Views.{instr_at}
@@ -104,7 +104,7 @@ calls_more : (p : Image) (m : ℕ) (a b : AbstractState) (i : Instr) (k : ℕ) �
 calls_more p m a b i k h c = charge_more p m a b (charge_of i) k h c
 
 reached_within : (s : Shapes) (place : ℕ) (sh : AbstractState) → at None s place ≡ Some sh → place < length s
-reached_within s place sh e = grind (arith, nat_tests, leb_reports, at_past None s place)
+reached_within s place sh e = grind (arith, nat_tests, leb_tells, at_past None s place)
 
 module _ (p : Image) (linked : IsLinked p) (m : ℕ) (s : Shapes) (strongest : IsMethodStrongest p m s) where
   -- what comes to a place that is reached comes before the end
@@ -221,6 +221,6 @@ filled_more p cap of m table n h within most =
     let inside : m < length table = omega (arith, within, h.size) in
     record {
       size = length-set table m n ∙ h.size;
-      each = grind (arith, nat_tests, eqb_reports, at_set_here 0 table m n inside, at_set_other 0 table m);
+      each = grind (arith, nat_tests, eqb_tells, at_set_here 0 table m n inside, at_set_other 0 table m);
       others = λ k past. at_set_other 0 table m k n (λ same. omega (arith, past, same)) ∙ h.others k (omega (arith, past));
     }

@@ -2,7 +2,7 @@
 use Rattle.std.proofs.lemmas.Bool.Decides.{nat_tests}
 use Rattle.std.proofs.Common.{Bool, List, Some, [], ap₂, arith, inl, inr, length, refl, replicate, slice_set, suc, sym, true, zero, ℕ, ◌++◌, ◌<◌, ◌∷◌, ◌≡◌, ◌≤◌}
 use Rattle.std.specs.Prelude.{max}
-use Rattle.std.proofs.lemmas.Bool.Decides.{eqb_reports}
+use Rattle.std.proofs.lemmas.Bool.Decides.{eqb_tells}
 use Rattle.aom_image.specs.Image.{Image}
 use Rattle.aom_roles.specs.Tables.{at}
 use Rattle.aom_budget.proofs.AbstractStateLemmas.{at_set_here, at_set_other}
@@ -32,14 +32,14 @@ module _ (ns : List ℕ) (m v : ℕ) where
 
   module _ (within : m < length ns) (low : at 0 ns m ≤ v) where
     grows_at : (x : ℕ) → at 0 ns x ≤ at 0 (slice_set ns m v) x
-    grows_at x = grind (arith, nat_tests, eqb_reports x m, at_set_here 0 ns m v within, at_set_other 0 ns m x v)
+    grows_at x = grind (arith, nat_tests, eqb_tells x m, at_set_here 0 ns m v within, at_set_other 0 ns m x v)
 
     pub most_grows : (xs : List ℕ) → most_at ns xs ≤ most_at (slice_set ns m v) xs
     most_grows [] = omega arith
     most_grows (x ∷ xs) = let here = grows_at x in let rest = most_grows xs in omega (arith, here, rest)
 
     set_within : (x : ℕ) → at 0 (slice_set ns m v) x ≤ max (at 0 ns x) v
-    set_within x = grind (arith, nat_tests, eqb_reports x m, at_set_here 0 ns m v within, at_set_other 0 ns m x v)
+    set_within x = grind (arith, nat_tests, eqb_tells x m, at_set_here 0 ns m v within, at_set_other 0 ns m x v)
 
     most_within : (xs : List ℕ) → most_at (slice_set ns m v) xs ≤ max (most_at ns xs) v
     most_within [] = omega arith

@@ -3,7 +3,7 @@ use Rattle.std.proofs.lemmas.Bool.Decides.{nat_tests}
 use Rattle.std.proofs.Common.{◌≡◌, ◌==◌, ℕ, zero, suc, ◌<◌, ◌≤◌, cond, List, [], ◌∷◌, length, slice_index_or, slice_set, replicate, refl, arith, ◌∙◌}
 use Rattle.std.specs.Prelude.{max}
 use Rattle.std.proofs.lemmas.Bool.{eq-eqb, eqb-true}
-use Rattle.std.proofs.lemmas.Bool.Decides.{eqb_reports}
+use Rattle.std.proofs.lemmas.Bool.Decides.{eqb_tells}
 use Rattle.aom_roles.specs.Tables.{at}
 use Rattle.aom_budget.proofs.AbstractStateLemmas.{at_set_here, at_set_other, at_within}
 use Rattle.aom_budget.specs.Pricing.{AreKept}
@@ -18,7 +18,7 @@ zeros_only_kept n = record { each = λ i. let none = at_zeros_only n i in omega 
 
 pub set_kept : (sums : List ℕ) (i v : ℕ) → i < length sums → v ≤ 4294967296 → AreKept sums → AreKept (slice_set sums i v)
 set_kept sums i v within low h = record {
-  each = grind (arith, nat_tests, eqb_reports, at_set_here 0 sums i v within, at_set_other 0 sums i);
+  each = grind (arith, nat_tests, eqb_tells, at_set_here 0 sums i v within, at_set_other 0 sums i);
 }
 
 -- within a list it does not matter what lies past its end

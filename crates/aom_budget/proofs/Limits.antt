@@ -2,7 +2,7 @@
 use Rattle.std.proofs.Common.{◌≡◌, ℕ, zero, suc, true, false, ◌<◌, ◌≤◌, ◌+◌, List, [], ◌∷◌, length, IsSome, inl, inr, ap, arith}
 use Rattle.std.specs.Prelude.{nat_le}
 use Rattle.std.specs.List.{list_all}
-use Rattle.std.proofs.lemmas.Bool.Decides.{leb_reports}
+use Rattle.std.proofs.lemmas.Bool.Decides.{leb_tells}
 use Rattle.aom_image.specs.Image.{Image}
 use Rattle.aom_image.specs.Views.{method_at}
 use Rattle.aom_link_conditions.specs.Linked.{IsLinked}
@@ -105,7 +105,7 @@ keeps most table h = record { each = go table h }
 
 pub exceeds : (most : ℕ) (table : List ℕ) → list_all (λ n. nat_le n most) table ≡ false → Exceeds most table
 exceeds most [] h = absurd cc
-exceeds most (x ∷ xs) h = elim (leb_reports x most) [
+exceeds most (x ∷ xs) h = elim (leb_tells x most) [
   | inl w ↦ let rest = exceeds most xs (rw w.0 at h) in record { method = suc rest.method; within = omega (arith, rest.within); more = rest.more }
   | inr w ↦ record { method = zero; within = omega arith; more = w.1 }
 ]

@@ -2,7 +2,7 @@
 use Rattle.std.proofs.lemmas.Bool.Decides.{nat_tests}
 use Rattle.std.proofs.Common.{◌≡◌, ℕ, ◌<◌, ◌≤◌, ◌+◌, ◌⊎◌, List, [], ◌∷◌, inl, inr, refl, subst, arith}
 use Rattle.std.specs.Prelude.{min, max}
-use Rattle.std.proofs.lemmas.Bool.Decides.{eqb_reports, leb_reports}
+use Rattle.std.proofs.lemmas.Bool.Decides.{eqb_tells, leb_tells}
 use Rattle.aom_roles.specs.Tables.{at}
 use Rattle.aom_static_bounds.specs.Calls.{Among}
 use Rattle.aom_budget.specs.StackDepths.{IsMost, OfSome, Joined, Before}
@@ -20,7 +20,7 @@ alike cap a b n there back h = record {
 pub of_either : (cap : ℕ) (a b : ℕ → Type 0) (x y : ℕ) → IsMost cap a x → IsMost cap b y → IsMost cap (λ k. a k ⊎ b k) (max x y)
 of_either cap a b x y h i = record {
   above = grind (arith, nat_tests);
-  met = grind (arith, nat_tests, leb_reports x y);
+  met = grind (arith, nat_tests, leb_tells x y);
 }
 
 pub joined : (cap own : ℕ) (others : ℕ → Type 0) (n : ℕ) → IsMost cap others n → IsMost cap (Joined own others) (min (own + n) cap)
@@ -61,7 +61,7 @@ join_last : (here : ℕ → ℕ → Type 0) (count n : ℕ) → Before here coun
 join_last here count n x = grind arith
 
 split_last : (here : ℕ → ℕ → Type 0) (count n : ℕ) → Before here (count + 1) n → Before here count n ⊎ here count n
-split_last here count n h = elim (eqb_reports h.place count) [
+split_last here count n h = elim (eqb_tells h.place count) [
   | inl w ↦ inr (subst (λ place. here place n) w.1 h.comes)
   | inr w ↦ inl (record { place = h.place; below = omega (arith, h.below, w.1); comes = h.comes })
 ]

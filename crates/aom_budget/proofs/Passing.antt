@@ -1,7 +1,7 @@
 -- One place more of a pass: tables that agree with what is found there too are swept there too.
 use Rattle.std.proofs.lemmas.Bool.Decides.{nat_tests}
 use Rattle.std.proofs.Common.{◌≡◌, ◌≢◌, ℕ, suc, ◌<◌, ◌≤◌, ◌+◌, List, [], ◌∷◌, ◌++◌, map, Option, Some, None, IsSome, inl, inr, refl, sym, ap, ◌∙◌, subst, arith}
-use Rattle.std.proofs.lemmas.Bool.Decides.{eqb_reports}
+use Rattle.std.proofs.lemmas.Bool.Decides.{eqb_tells}
 use Rattle.std.specs.Prelude.{bit_and}
 use Rattle.aom_image.specs.Image.{Image}
 use Rattle.aom_image.specs.Views.{method_class}
@@ -132,7 +132,7 @@ later x y le differs = omega (arith, le, differs)
 
 swept_more : (p : Image) (t : Typing) (c : Prices) (a : LoopExits) (m x : ℕ) → IsSweptFrom kept p t c a m (suc x) → IsSweptAt kept p t c a m x →
     IsSweptFrom kept p t c a m x
-swept_more p t c a m x h here = from_each kept p t c a m x (λ y le. elim (eqb_reports y x) [
+swept_more p t c a m x h here = from_each kept p t c a m x (λ y le. elim (eqb_tells y x) [
   | inl w ↦ rw w.1 here
   | inr w ↦ at_each kept p t c a m (suc x) h y (later x y le w.1)
 ])
@@ -168,13 +168,13 @@ module _ (p : Image) (prices : List ℕ) (m : ℕ) (s : Shapes) (looped : IsLoop
       ((f d n : ℕ) (r : Region) → Body p m f x d n → IsInnermost p m f r → after_in new.after r ≤ at 0 new.after f) →
       ((sh : AbstractState) (r : Region) → at None s x ≡ Some sh → IsInnermost p m x r → after_in new.after r ≤ at 0 new.from x) → IsPassed p prices m s x new
   passed_more here around covers = record {
-    around = λ f to d n r le b inner. elim (eqb_reports to x) [
+    around = λ f to d n r le b inner. elim (eqb_tells to x) [
       | inl w ↦ around f d n r (rw w.1 at b) inner
       | inr w ↦
           let past = later x to le w.1 in
           rw (after_around r f to d n inner b past, extends.loop_exits f to d n past b) (h.around f to d n r past b inner)
     ];
-    covers = λ y sh r le there inner. elim (eqb_reports y x) [
+    covers = λ y sh r le there inner. elim (eqb_tells y x) [
       | inl w ↦ rw w.1 (covers sh r (rw w.1 at there) (rw w.1 at inner))
       | inr w ↦
           let past = later x y le w.1 in

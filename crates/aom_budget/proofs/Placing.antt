@@ -3,7 +3,7 @@ use Rattle.std.proofs.lemmas.Bool.Decides.{nat_tests}
 use Rattle.std.proofs.lemmas.Option.{same_Some}
 use Rattle.std.proofs.Common.{◌≡◌, ℕ, suc, ◌<◌, ◌≤◌, ◌+◌, ◌-◌, ◌*◌, List, [], Some, None, inl, inr, refl, sym, ap, ◌∙◌, subst, arith}
 use Rattle.std.specs.Prelude.{max}
-use Rattle.std.proofs.lemmas.Bool.Decides.{leb_reports}
+use Rattle.std.proofs.lemmas.Bool.Decides.{leb_tells}
 use Rattle.aom_image.specs.Image.{Image}
 use Rattle.aom_image.specs.Views.{instr_at}
 use Rattle.aom_instructions.specs.declared.instr.Instr.{Instr}
@@ -207,7 +207,7 @@ module _ (p : Image) (prices : List ℕ) (m : ℕ) (s : Shapes) (looped : IsLoop
           out = grind (arith, nat_tests, exit_of t agrees.states, found_out t c a agrees, closed t c a agrees);
           met = elim exits.met [
             | inl none ↦ inl (omega (arith, closed t c a agrees, around_same t c a agrees, none))
-            | inr w ↦ elim (leb_reports u (after_in old.after r)) [
+            | inr w ↦ elim (leb_tells u (after_in old.after r)) [
               | inl v ↦ inl (omega (arith, closed t c a agrees, around_same t c a agrees, v.1))
               | inr v ↦
                   let out = w.1.comes.out in

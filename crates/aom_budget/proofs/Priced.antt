@@ -3,7 +3,7 @@ use Rattle.std.proofs.lemmas.Bool.Decides.{nat_tests}
 use Rattle.std.proofs.Common.{◌≡◌, ℕ, zero, suc, ◌<◌, ◌≤◌, ◌+◌, ◌-◌, ◌⊎◌, ⊎_elim, List, [], ◌∷◌, length, Option, Some, None, IsSome, slice_set, replicate, inl}
 use Rattle.std.proofs.Common.{inr, refl, sym, ap, ◌∙◌, subst, arith}
 use Rattle.std.proofs.lemmas.Bool.{cases_lt}
-use Rattle.std.proofs.lemmas.Bool.Decides.{eqb_reports}
+use Rattle.std.proofs.lemmas.Bool.Decides.{eqb_tells}
 use Rattle.std.proofs.lemmas.List.{length-set, length-replicate}
 use Rattle.aom_image.specs.Image.{Image}
 use Rattle.aom_image.specs.Views.{instr_at, method_at, method_class}
@@ -200,7 +200,7 @@ priced_more p prices m n h within here =
     let inside : m < length prices = omega (arith, within, h.size) in
     record {
       size = length-set prices m n ∙ h.size;
-      each = λ k below. elim (eqb_reports k m) [
+      each = λ k below. elim (eqb_tells k m) [
         | inl w ↦ rw (w.1, at_set_here 0 prices m n inside) (still_priced p prices m m n n (omega arith) here)
         | inr w ↦ rw (at_set_other 0 prices m k n w.1) (still_priced p prices k m _ n (omega (arith, below)) (h.each k (omega (arith, below, w.1))))
       ];

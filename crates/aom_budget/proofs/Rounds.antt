@@ -1,6 +1,6 @@
 -- The innermost loops round two places that follow each other, and the list of the loops that a pass is in.
 use Rattle.std.proofs.Common.{◌≡◌, ℕ, suc, ◌<◌, List, length, Option, Some, None, slice_set, inl, inr, sym, ap, ◌∙◌, subst, arith}
-use Rattle.std.proofs.lemmas.Bool.Decides.{eqb_reports, leb_reports}
+use Rattle.std.proofs.lemmas.Bool.Decides.{eqb_tells, leb_tells}
 use Rattle.aom_image.specs.Image.{Image}
 use Rattle.aom_image.specs.Views.{instr_at, transfer_at}
 use Rattle.aom_instructions.specs.declared.instr.Instr.{Instr}
@@ -47,10 +47,10 @@ module _ (p : Image) (m : ℕ) where
     plain_here : (x : ℕ) (i : Instr) (r : Region) → instr_at p m x ≡ Some i → loop_in (Some i) ≡ None → next_in (Some i) ≡ None →
         IsInnermost p m (suc x) r → IsInnermost p m x r
     unfolding Enters
-    plain_here x i r stands no_loop no_next h = same_loops (suc x) x r (λ f e d n b inside. elim (eqb_reports f x) [
+    plain_here x i r stands no_loop no_next h = same_loops (suc x) x r (λ f e d n b inside. elim (eqb_tells f x) [
       | inl w ↦ absurd (no_body_begins x f e d n i stands no_loop b w.1)
       | inr w ↦ (omega (arith, inside.0, w.1), omega (arith, inside.1))
-    ]) (λ f e d n b inside. elim (eqb_reports e x) [
+    ]) (λ f e d n b inside. elim (eqb_tells e x) [
       | inl w ↦ absurd (no_body_ends x f e d n i stands no_next b w.1)
       | inr w ↦ (omega (arith, inside.0), omega (arith, inside.1, w.1))
     ]) h
@@ -61,8 +61,8 @@ module _ (p : Image) (m : ℕ) where
     next_around f x d n r body h = same_loops (suc x) f r there back h
       where
         there : (g k c l : ℕ) → Body p m g k c l → IsIn g k (suc x) → IsIn g k f
-        there g k c l b inside = elim (leb_reports f g) [
-          | inl w ↦ elim (eqb_reports g x) [
+        there g k c l b inside = elim (leb_tells f g) [
+          | inl w ↦ elim (eqb_tells g x) [
             | inl v ↦ absurd (not_both_in (instr_at p m x) c l d (suc f) (ap (λ y. transfer_at p m y) (sym v.1) ∙ b.begins) body.ends)
             | inr v ↦
                 let ends = nested p looped m f x d n g k c l body b w.1 (omega (arith, inside.0, v.1)) in
@@ -74,7 +74,7 @@ module _ (p : Image) (m : ℕ) where
         back : (g k c l : ℕ) → Body p m g k c l → IsIn g k f → IsIn g k (suc x)
         back g k c l b inside =
             let ends = ends_before p looped m g k c l f x d n b body inside in
-            elim (eqb_reports k x) [
+            elim (eqb_tells k x) [
               | inl w ↦
                   let closes = subst (λ y. Body p m g y c l) w.1 b in
                   absurd (omega (arith, one_begin f g x d n c l body closes, inside.0))
@@ -85,7 +85,7 @@ module _ (p : Image) (m : ℕ) where
     next_here f x d n body = record {
       body = (d, n, body);
       inside = (body.later, omega arith);
-      others = λ g k c l b inside. elim (leb_reports g f) [
+      others = λ g k c l b inside. elim (leb_tells g f) [
         | inl w ↦ w.1
         | inr w ↦
             let ends = nested p looped m f x d n g k c l body b (omega (arith, w.1)) inside.0 in
@@ -101,7 +101,7 @@ module _ (p : Image) (m : ℕ) where
         loop_in (Some i) ≡ None → next_in (Some i) ≡ None → IsWithin p m (suc x) inner around → IsWithin p m x inner around
     within_plain x i inner around stands no_loop no_next h = record {
       here = plain_here x i (region_of inner) stands no_loop no_next h.here;
-      loops = λ f e d n before after b. elim (eqb_reports e x) [
+      loops = λ f e d n before after b. elim (eqb_tells e x) [
         | inl w ↦ absurd (no_body_ends x f e d n i stands no_next b w.1)
         | inr w ↦ h.loops f e d n (omega (arith, before)) (omega (arith, after, w.1)) b
       ];
@@ -114,7 +114,7 @@ module _ (p : Image) (m : ℕ) where
         let begins = looped.begins m x d n stands in
         record {
           here = h.loops x begins.1 d n (omega arith) (begins.2).later begins.2;
-          loops = λ f e c l before after b. elim (eqb_reports e x) [
+          loops = λ f e c l before after b. elim (eqb_tells e x) [
             | inl w ↦ absurd (loop_ends_none x f e c l d n stands b w.1)
             | inr w ↦ h.loops f e c l (omega (arith, before)) (omega (arith, after, w.1)) b
           ];
@@ -124,7 +124,7 @@ module _ (p : Image) (m : ℕ) where
         IsWithin p m (suc x) inner around → IsWithin p m x (Some (record { first = f; last = x })) (slice_set around f inner)
     within_next f x d n inner around body room h = record {
       here = next_here f x d n body;
-      loops = λ g k c l before after b. elim (eqb_reports k x) [
+      loops = λ g k c l before after b. elim (eqb_tells k x) [
         | inl w ↦
             let closes = subst (λ y. Body p m g y c l) w.1 b in
             let same = one_begin f g x d n c l body closes in

@@ -22,12 +22,12 @@ use Rattle.aom_debug_paths.specs.declared.following.Found.{Found}
 use Rattle.aom_debug_paths.specs.Paths.{IsFound, asked_answer, object_queue, queue_in, taken_answer, waiting_lines}
 
 -- one entry
-entry_reported : (k : kept.State) (e : QueueEntry) → taken_answer (taken_entry k e) ≡ asked_answer (asked_by k.places e)
+entry_reported : (k : kept.ClientsState) (e : QueueEntry) → taken_answer (taken_entry k e) ≡ asked_answer (asked_by k.places e)
 entry_reported k (Connect c) = refl
 entry_reported k (Message m) = refl
 entry_reported k (Close c) = refl
 
-entries_reported : (k : kept.State) (es : List QueueEntry) → map (λ e. taken_answer (taken_entry k e)) es ≡ map asked_answer (map (asked_by k.places) es)
+entries_reported : (k : kept.ClientsState) (es : List QueueEntry) → map (λ e. taken_answer (taken_entry k e)) es ≡ map asked_answer (map (asked_by k.places) es)
 entries_reported k [] = refl
 entries_reported k (e ∷ es) = ap (λ a. a ∷ map (λ x. taken_answer (taken_entry k x)) es) (entry_reported k e)
     ∙ ap (λ ys. asked_answer (asked_by k.places e) ∷ ys) (entries_reported k es)

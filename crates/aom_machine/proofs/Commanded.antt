@@ -36,7 +36,7 @@ reported_fresh x cs free none n = grind (arith, nat_tests, eqb-true x.object.nam
 -- ---- the sessions of clients
 
 -- a client that is at something else has the same session, or has none as before
-module _ (s : kept.State) (c : ℕ) (small : c < length s.clients) where
+module _ (s : kept.ClientsState) (c : ℕ) (small : c < length s.clients) where
   client_then : (to : Client) (d : ℕ) → kept.client_at (kept.with_client c to s) d ≡ cond (c == d) to (kept.client_at s d)
   client_then to d = at_set Unconnected s.clients c d to small
 
@@ -44,15 +44,15 @@ module _ (s : kept.State) (c : ℕ) (small : c < length s.clients) where
   sessions_with to same n d = grind (arith, nat_tests, client_then to d, eqb-true c d)
 
 -- a connect
-connected_none : (x : Client) (refused : Option CommandRefusal) (server : Option Server) (s : kept.State) →
+connected_none : (x : Client) (refused : Option CommandRefusal) (server : Option Server) (s : kept.ClientsState) →
     kept.asked (row x).connect server s ≡ None → (n : ℕ) → session_with n x ≡ session_with n Unconnected
 connected_none x refused server s e n = grind arith
 
-pub sessions_connect : (s : kept.State) (c : ℕ) (server : Option Server) (slots : ℕ) → c < length s.clients → SessionsSame s (kept.after_connect c server slots s)
+pub sessions_connect : (s : kept.ClientsState) (c : ℕ) (server : Option Server) (slots : ℕ) → c < length s.clients → SessionsSame s (kept.after_connect c server slots s)
 sessions_connect s c server slots small = grind (arith, nat_tests, SessionsSame s, sessions_with s c small, connected_none)
 
 -- a send
-pub sessions_send : (s : kept.State) (c : ℕ) (place : Option ℕ) → SessionsSame s (kept.after_send c place s)
+pub sessions_send : (s : kept.ClientsState) (c : ℕ) (place : Option ℕ) → SessionsSame s (kept.after_send c place s)
 sessions_send s c place = grind (arith, nat_tests, SessionsSame s)
 
 -- a close, and a death
@@ -62,7 +62,7 @@ closes_alike x to e n = grind arith
 dies_alike : (x to : Client) → (row x).die ≡ Some to → (n : ℕ) → session_with n to ≡ session_with n x
 dies_alike x to e n = grind arith
 
-module _ (s : kept.State) (c : ℕ) (small : c < length s.clients) where
+module _ (s : kept.ClientsState) (c : ℕ) (small : c < length s.clients) where
   sessions_left : (to : Client) → ((n : ℕ) → session_with n to ≡ session_with n (kept.client_at s c)) → (x : Client) →
       SessionsSame s (kept.reported x c (kept.with_client c to (kept.withdrawn c s)))
   sessions_left to same x = grind (arith, nat_tests, sessions_with s c small to same)

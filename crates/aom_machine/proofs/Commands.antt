@@ -100,7 +100,7 @@ module _ (p : Image) (m : Parts) (s : State) (st : Refines (record { image = p; 
 
   -- ---- what it comes to
 
-  module _ (between : IsBetween s) (k : kept.State) (store : Store) (a : Active)
+  module _ (between : IsBetween s) (k : kept.ClientsState) (store : Store) (a : Active)
       (reported now : LineBuffer) (result : Result (Unit {0}) CommandRefusal) (lines : now ≡ record reported { lines = reported.lines ++ reported_refusal c result }) where
     abbrev old : MachineModel
     old = record { image = p; parts = m }
@@ -110,7 +110,7 @@ module _ (p : Image) (m : Parts) (s : State) (st : Refines (record { image = p; 
 
     -- by what is made of clients and messages
     by_parts : (command : ClientCommand) (place : Option ℕ) → IfSome place (λ n. (n < 1024) × (message_at m.messages n ≡ None)) →
-        result ≡ kept.answer (refusal p c s command) → (then : kept.State) → k ≡ then →
+        result ≡ kept.answer (refusal p c s command) → (then : kept.ClientsState) → k ≡ then →
         SameClients then (commanded p c w command (sent_name place)).cells (commanded p c w command (sent_name place)).clients → AreSized p.header.cells then →
         SessionsSame m.clients then → SameMessages p store (commanded p c w command (sent_name place)).cells → (server : Option ℕ) →
         ((n : ℕ) → (server ≡ Some n → ⊥) → Untouched p c w command n) → NotesIf server k m.active a → Executed old s c command reported now new

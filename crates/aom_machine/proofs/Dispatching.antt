@@ -69,7 +69,7 @@ module _ (p : Image) (m : Machine_parts) (s : State) (st : Refines (record { ima
   abbrev n : ℕ
   n = x.object.name
 
-  abbrev k' : kept.State
+  abbrev k' : kept.ClientsState
   k' = kept.after_next n m.clients
 
   abbrev cs : List Cell

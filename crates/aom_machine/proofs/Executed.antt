@@ -69,7 +69,7 @@ module _ (p : Image) (m : Parts) (s : State) (st : Refines (record { image = p; 
   servers_below o lives serves = grind (arith, nat_tests, message_plain p Message)
 
   module _ (command : ClientCommand) (name : ℕ) (free : named s.cells name ≡ None) (high : 4096 ≤ name)
-      (k : kept.State) (store : Store) (a : Active) (clients : SameClients k (commanded p c v command name).cells (commanded p c v command name).clients)
+      (k : kept.ClientsState) (store : Store) (a : Active) (clients : SameClients k (commanded p c v command name).cells (commanded p c v command name).clients)
       (sized : AreSized p.header.cells k) (sessions : SessionsSame m.clients k) (messages : SameMessages p store (commanded p c v command name).cells)
       (server : Option ℕ) (touched : (n : ℕ) → (server ≡ Some n → ⊥) → Untouched p c v command n) (observes : NotesIf server k m.active a) where
     abbrev then : State

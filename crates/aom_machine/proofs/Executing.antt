@@ -71,7 +71,7 @@ only_open x e = grind arith
 unrefused : (p : Image) (c : ℕ) (v : State) (r : Option CommandRefusal) → room p c v r ≡ None → r ≡ None
 unrefused p c v r e = grind arith
 
-module _ (p : Image) (c : ℕ) (v : State) (k : kept.State) (same : SameClients k v.cells v.clients) (before after : Store)
+module _ (p : Image) (c : ℕ) (v : State) (k : kept.ClientsState) (same : SameClients k v.cells v.clients) (before after : Store)
     (messages : SameMessages p before v.cells) where
   pub messages_connect : (class slots name : ℕ) → after ≡ before → SameMessages p after (commanded p c v (Connect class slots) name).cells
   messages_connect class slots name still = grind (arith, nat_tests, by_connecting p c v, messages_served p before v.cells)

@@ -28,7 +28,7 @@ of_none : (x : Option Bool) → is_some x ≡ false → x ≡ None
 of_none x e = grind arith
 
 -- something waits on both sides
-pub waits_alike : (k : kept.State) (cs : List Cell) (clients : List Client) → SameClients k cs clients → (n : ℕ) → is_queued k n ≡ has_more (service_of cs n).queue
+pub waits_alike : (k : kept.ClientsState) (cs : List Cell) (clients : List Client) → SameClients k cs clients → (n : ℕ) → is_queued k n ≡ has_more (service_of cs n).queue
 waits_alike k cs clients same n = grind (arith, nat_tests)
 
 module _ (p : Image) (old new : Active) (cs ds : List Cell) (b : Beside cs ds) (same : SameRequests p old cs) (j : ℕ) where

@@ -41,10 +41,10 @@ reported_one c reported now result r code is coded wrote = grind (arith, nat_tes
 -- ---- the queue that is told of
 
 -- there are as many queues as before
-sized_alike : {cells : ℕ} (k new then : kept.State) → new ≡ then → AreSized cells k → AreSized cells then → length new.queues ≡ length k.queues
-sized_alike k new then is sized now = ap (λ (x : kept.State). length x.queues) is ∙ now.queues ∙ sym sized.queues
+sized_alike : {cells : ℕ} (k new then : kept.ClientsState) → new ≡ then → AreSized cells k → AreSized cells then → length new.queues ≡ length k.queues
+sized_alike k new then is sized now = ap (λ (x : kept.ClientsState). length x.queues) is ∙ now.queues ∙ sym sized.queues
 
-pub sized_acts : (cells : ℕ) (k new : kept.State) → AreSized cells k → (c : ℕ) (command : ClientCommand) (asked : Option Server)
+pub sized_acts : (cells : ℕ) (k new : kept.ClientsState) → AreSized cells k → (c : ℕ) (command : ClientCommand) (asked : Option Server)
     (before after : Store) (result : Result (Unit {0}) CommandRefusal) → Acts c command asked k new before after result → length new.queues ≡ length k.queues
 sized_acts cells k new sized c (Connect class slots) asked before after result acts = sized_alike k new _ acts.1 sized (sized_connect cells k sized c asked slots)
 sized_acts cells k new sized c (Send words) asked before after result acts = sized_alike k new _ acts.after_it sized (sized_send cells k sized c acts.place)
@@ -57,7 +57,7 @@ small_queue x many now below few same = grind arith
 
 -- no timer is another
 pub observes_timers : (p : Image) (m : Parts) → Stands (record { image = p; parts = m }) →
-    (queue : Option ℕ) (k : kept.State) (new : Active) → NotesIf queue k m.active new → new.pending.timers ≡ m.active.pending.timers
+    (queue : Option ℕ) (k : kept.ClientsState) (new : Active) → NotesIf queue k m.active new → new.pending.timers ≡ m.active.pending.timers
 observes_timers p m stands None k new same = ap (λ (a : Active). a.pending.timers) same
 observes_timers p m stands (Some n) k new notes = go (is_server (request_at m.active.table n)) notes
   where
@@ -72,7 +72,7 @@ observes_timers p m stands (Some n) k new notes = go (is_server (request_at m.ac
 
 module _ (p : Image) (m : Parts) (turned : progress_by m.rest.ended m.stack.tasks ≡ Turned) (c : ℕ) (one : c < 64) (command : ClientCommand) (asked : Option
     Server) (asks : asked ≡ asked_by p m.listed command) (queue : Option ℕ) (changed : queue ≡ queue_changed asked (kept.client_at m.clients c)) where
-  pub observed : (k : kept.State) (store : Store) (a : Active) (reported now : LineBuffer) (result : Result (Unit {0}) CommandRefusal) → now ≡ record reported
+  pub observed : (k : kept.ClientsState) (store : Store) (a : Active) (reported now : LineBuffer) (result : Result (Unit {0}) CommandRefusal) → now ≡ record reported
       { lines = reported.lines ++ reported_refusal c result } → Acts c command asked m.clients k m.messages store result → NotesIf queue k m.active a →
       (s : State) → Refines (record { image = p; parts = m }) s → Executed (record { image = p; parts = m }) s c command reported now
       (record { image = p; parts = record m { clients = k; messages = store; active = a; rest = record m.rest { delivered = suc m.rest.delivered } } })

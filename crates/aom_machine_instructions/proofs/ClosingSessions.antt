@@ -143,7 +143,7 @@ module _ (p : Image) (formed : WellFormed p) (m : Parts)
   -- the session of that client is the first that is there: it goes
   module _ (c r : ℕ) (first : kept.first_there m.clients (kept.sessions_at m.clients x) ≡ Some c) (its : session_of (kept.client_at m.clients c) ≡ Some r)
       (small : r < 65536) where
-    abbrev k' : kept.State
+    abbrev k' : kept.ClientsState
     k' = kept.after_release c m.clients
 
     abbrev m' : Parts
@@ -288,7 +288,7 @@ finds_server p m st announced closing =
 -- ---- as the code finds it
 
 -- what is first there has a cell
-first_has : (k : kept.State) (cs : List ℕ) (c : ℕ) → kept.first_there k cs ≡ Some c → has_cell (kept.client_at k c) ≡ true
+first_has : (k : kept.ClientsState) (cs : List ℕ) (c : ℕ) → kept.first_there k cs ≡ Some c → has_cell (kept.client_at k c) ≡ true
 first_has k [] c e = cc
 first_has k (d ∷ cs) c e = go (has_cell (kept.client_at k d)) refl e (first_has k cs c)
   where
@@ -301,11 +301,11 @@ has_session_of : (x : Client) → has_cell x ≡ true → session_of x ≡ None 
 has_session_of x has none = grind arith
 
 -- none was taken
-none_taken : (k : kept.State) (cs : List ℕ) → session_there (kept.first_there k cs) k ≡ None → kept.first_there k cs ≡ None
+none_taken : (k : kept.ClientsState) (cs : List ℕ) → session_there (kept.first_there k cs) k ≡ None → kept.first_there k cs ≡ None
 none_taken k cs none = grind (arith, nat_tests, has_session_of, first_has k cs)
 
 -- or that of a client
-one_taken : (k : kept.State) (cs : List ℕ) (r : ℕ) → session_there (kept.first_there k cs) k ≡ Some r →
+one_taken : (k : kept.ClientsState) (cs : List ℕ) (r : ℕ) → session_there (kept.first_there k cs) k ≡ Some r →
     (c : ℕ) × (kept.first_there k cs ≡ Some c) × (session_of (kept.client_at k c) ≡ Some r)
 one_taken k cs r some = grind (arith, nat_tests)
 

@@ -17,7 +17,7 @@ use Rattle.std.proofs.Common.{zero, suc, ◌≢◌, ◌≡◌, ◌==◌, ◌&&�
 use Rattle.std.proofs.Common.{Option, Some, None, slice_index_or, slice_set, refl, sym, ap, ◌∙◌, subst, arith, append-nil, append_assoc}
 use Rattle.std.specs.Prelude.{IfSome, IsSome, is_some}
 use Rattle.std.proofs.lemmas.Bool.{eq-eqb, eqb-true, false≢true, ne_eqb}
-use Rattle.std.proofs.lemmas.Bool.Decides.{leb_reports}
+use Rattle.std.proofs.lemmas.Bool.Decides.{leb_tells}
 use Rattle.std.proofs.lemmas.List.{length-set}
 use Rattle.aom_image.specs.Image.{Image}
 use Rattle.aom_image.specs.Views.{action_in, arguments_of, method_at, method_class}
@@ -234,7 +234,7 @@ module _ (p : Image) (trapped : Bool) (heap : Heap) (es : List Item) (rest : Oth
 -- its arguments lie in registers that a method has
 pub entering_fits : (p : Image) (fr : Frame) (ts : List Task) (s : State) (target : Target) (k first : ℕ) (more : List Need) →
     AllTrue (needs_entering p fr ts s target k first more) → (first + length (arguments_of p k)) ≤ 16
-entering_fits p fr ts s target k first more needs = grind (arith, nat_tests, all_parts, leb_reports)
+entering_fits p fr ts s target k first more needs = grind (arith, nat_tests, all_parts, leb_tells)
 
 -- what the method works on
 receiver_of : (p : Image) (m : Parts) (h : CurrentFrame p m) (target : Target) (k : ℕ) (class : Option ℕ) (first count : ℕ) →

@@ -92,7 +92,7 @@ all_kept store (Message k ∷ es) once there = (
 all_kept store (Close c ∷ es) once there = (tt, tt, all_kept store es once there)
 
 -- the lines of entries are told alike
-lines_alike : (s : kept.State) (es : List QueueEntry) → flat_map (lines_of_entry s.places) es ≡ gone_lines s es
+lines_alike : (s : kept.ClientsState) (es : List QueueEntry) → flat_map (lines_of_entry s.places) es ≡ gone_lines s es
 lines_alike s [] = refl
 lines_alike s (Connect c ∷ es) = ap (λ ls. lines_of_entry s.places (Connect c) ++ ls) (lines_alike s es)
 lines_alike s (Message k ∷ es) = ap (λ ls. lines_of_entry s.places (Message k) ++ ls) (lines_alike s es)
@@ -101,29 +101,29 @@ lines_alike s (Close c ∷ es) = lines_alike s es
 -- ---- the numbers of sessions as a server goes, none of which is there
 
 -- no number is there for that client
-abbrev NoCell : kept.State → ℕ → Type 0
+abbrev NoCell : kept.ClientsState → ℕ → Type 0
 NoCell s c = (i : ℕ) → session_with i (kept.client_at s c) ≡ null
 
 -- one that has none is at something else
-set_same : (s s' : kept.State) (c : ℕ) (to : Client) → s'.clients ≡ (kept.with_client c to s).clients →
+set_same : (s s' : kept.ClientsState) (c : ℕ) (to : Client) → s'.clients ≡ (kept.with_client c to s).clients →
     (length s.clients ≤ c → to ≡ Unconnected) → NoCell s c → ((i : ℕ) → session_with i to ≡ null) → SessionsSame s s'
 set_same s s' c to is past was none i d = grind (arith, nat_tests, at_set_or Unconnected s.clients c d to past, eqb-true c d)
 
-none_then : (s s' : kept.State) → SessionsSame s s' → (c : ℕ) → NoCell s c → NoCell s' c
+none_then : (s s' : kept.ClientsState) → SessionsSame s s' → (c : ℕ) → NoCell s c → NoCell s' c
 none_then s s' same c none i = same i c ∙ none i
 
 -- clients that connect have none
-abbrev Quiet : kept.State → List QueueEntry → Type 0
+abbrev Quiet : kept.ClientsState → List QueueEntry → Type 0
 Quiet s [] = Unit {0}
 Quiet s (Connect c ∷ es) = NoCell s c × Quiet s es
 Quiet s (_ ∷ es) = Quiet s es
 
-quiet_then : (s s' : kept.State) → SessionsSame s s' → (es : List QueueEntry) → Quiet s es → Quiet s' es
+quiet_then : (s s' : kept.ClientsState) → SessionsSame s s' → (es : List QueueEntry) → Quiet s es → Quiet s' es
 quiet_then s s' same [] quiet = tt
 quiet_then s s' same (Connect c ∷ es) quiet = (none_then s s' same c quiet.0, quiet_then s s' same es quiet.1)
 quiet_then s s' same (_ ∷ es) quiet = quiet_then s s' same es quiet
 
-queue_same : (n : ℕ) (es : List QueueEntry) (s : kept.State) → Quiet s es → SessionsSame s (kept.queue_gone n es s)
+queue_same : (n : ℕ) (es : List QueueEntry) (s : kept.ClientsState) → Quiet s es → SessionsSame s (kept.queue_gone n es s)
 queue_same n [] s quiet = λ i d. refl
 queue_same n (e ∷ es) s quiet =
     λ i d. queue_same n es (kept.gone n (e ∷ es) s) (quiet_then s (kept.gone n (e ∷ es) s) (one e quiet) es (rest e quiet)) i d ∙ one e quiet i d
@@ -137,18 +137,18 @@ queue_same n (e ∷ es) s quiet =
     rest _ quiet = quiet
 
 -- so have those whose sessions end
-abbrev NoneOf : kept.State → List ℕ → Type 0
+abbrev NoneOf : kept.ClientsState → List ℕ → Type 0
 NoneOf s [] = Unit {0}
 NoneOf s (c ∷ cs) = NoCell s c × NoneOf s cs
 
-none_of_then : (s s' : kept.State) → SessionsSame s s' → (cs : List ℕ) → NoneOf s cs → NoneOf s' cs
+none_of_then : (s s' : kept.ClientsState) → SessionsSame s s' → (cs : List ℕ) → NoneOf s cs → NoneOf s' cs
 none_of_then s s' same [] none = tt
 none_of_then s s' same (c ∷ cs) none = (none_then s s' same c none.0, none_of_then s s' same cs none.1)
 
 gone_none : (x : Client) (i : ℕ) → session_with i x ≡ null → session_with i (after_server_destroyed x) ≡ null
 gone_none x i e = grind arith
 
-sessions_same : (n : ℕ) (cs : List ℕ) (s : kept.State) → NoneOf s cs → SessionsSame s (kept.sessions_gone n cs s)
+sessions_same : (n : ℕ) (cs : List ℕ) (s : kept.ClientsState) → NoneOf s cs → SessionsSame s (kept.sessions_gone n cs s)
 sessions_same n [] s none = λ i d. refl
 sessions_same n (c ∷ cs) s none =
     λ i d. sessions_same n cs (kept.session_gone n (c ∷ cs) s) (none_of_then s (kept.session_gone n (c ∷ cs) s) one cs none.1) i d ∙ one i d
@@ -178,10 +178,10 @@ module _ (p : Image) (m : Parts) (h : In_going p m)
   abbrev n : ℕ
   n = o.name
 
-  abbrev k : kept.State
+  abbrev k : kept.ClientsState
   k = m.clients
 
-  abbrev k' : kept.State
+  abbrev k' : kept.ClientsState
   k' = kept.server_gone o.name m.clients
 
   abbrev xs : List ℕ
@@ -429,12 +429,12 @@ can_reclaim p m st n lives =
     record { small = omega (arith, below, few); within = subst (λ k. n < k) (sym st.1.agrees.services.sized.queues) below; kept = all_kept m.messages (kept.queue_at m.clients n) once there }
 
 -- each entry is one line, or none
-gone_counted : (s : kept.State) (es : List QueueEntry) → length (gone_lines s es) ≡ answers es
+gone_counted : (s : kept.ClientsState) (es : List QueueEntry) → length (gone_lines s es) ≡ answers es
 gone_counted s [] = refl
 gone_counted s (Close c ∷ es) = gone_counted s es
 gone_counted s (_ ∷ es) = ap suc (gone_counted s es)
 
 -- so there is room for the cell's line
-pub room_left : (reported : LineBuffer) (s : kept.State) (es : List QueueEntry) → (length reported.lines + answers es) < reported.room →
+pub room_left : (reported : LineBuffer) (s : kept.ClientsState) (es : List QueueEntry) → (length reported.lines + answers es) < reported.room →
     length (reported.lines ++ gone_lines s es) < reported.room
 room_left reported s es room = let many = length-append reported.lines (gone_lines s es) in let counted = gone_counted s es in omega (arith, room, many, counted)

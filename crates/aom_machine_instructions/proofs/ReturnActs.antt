@@ -405,7 +405,7 @@ returned_plain : (p : Image) (fr : Frame) (s : State) (g : Gives) (a : ℕ) (ts 
     (Trapped ∷ Dispatched (dispatch_of q x) ∷ ts) ≡ record s { tasks = Dispatched (dispatch_of q (ends.served x)) ∷ ts; items = below_top s.items }
 returned_plain p fr s g a ts q x plain = grind arith
 
-opened_plain : (n : ℕ) (x : Machine_dispatch) (us : List Machine_task) (k : kept_clients.State) → AcceptsNot x → opened_by n (Ends x ∷ us) k ≡ k
+opened_plain : (n : ℕ) (x : Machine_dispatch) (us : List Machine_task) (k : kept_clients.ClientsState) → AcceptsNot x → opened_by n (Ends x ∷ us) k ≡ k
 opened_plain n x us k plain = grind arith
 
 -- `accept` gives an object, a session with its server

@@ -51,7 +51,7 @@ module _ (p : Image) (few : p.header.cells ≤ 4096) (m : Parts) (s : State) (no
     abbrev after : List Cell
     after = reserved (opened c) x.number between
 
-    abbrev k : kept.State
+    abbrev k : kept.ClientsState
     k = kept.after_connected c (Some n) m.clients
 
     same_clients : SameClients k after (with_client c (at_opening 0 (client_at s.clients c)) s.clients)

@@ -90,9 +90,9 @@ in_service p t s x c code typed top =
 
 -- the session of a client whose close was served is gone
 session_gone : (p : Image) (t : Typing) (s : State) (x : OwnedObject) (c : ℕ) →
-    WellTyped p t s → s.tasks ≡ Dispatched (Of_server x c checked.Parts) ∷ [] → held s.cells (Elsewhere (Session x.object.name c)) ≡ None
+    WellTyped p t s → s.tasks ≡ Dispatched (Of_server x c checked.Disconnects) ∷ [] → held s.cells (Elsewhere (Session x.object.name c)) ≡ None
 session_gone p t s x c typed top =
-    dispatch_layer (Good p t s.cells) (Of_server x c checked.Parts) [] typed.layers (sym typed.tasks ∙ top) typed.good (λ owned_chain ls _ good.
+    dispatch_layer (Good p t s.cells) (Of_server x c checked.Disconnects) [] typed.layers (sym typed.tasks ∙ top) typed.good (λ owned_chain ls _ good.
     let q = Elsewhere (Session x.object.name c) in
     let old = claim p (declared p s.cells) ls q in
     let null_there : cond ((x.object.name == x.object.name) && (c == c)) Null old ≡ Null =
@@ -104,7 +104,7 @@ session_gone p t s x c typed top =
 module _ (p : Image) (formed : WellFormed p) (m : Parts) (announced : m.rest.announced ≡ true)
     (t : Typing) (s : State) (wired : IsWired p) (typed : WellTyped p t s) (fits : StateInvariant p s) (agrees : Agrees p m s) (x : Subject) (c : ℕ) where
   -- all of the machine but its tasks, with these cells and these clients
-  record Left (k : kept.State) (store : Store) (served : ℕ) (cs : List Cell) (at : List Client) (owned_object : OwnedObject) : Type 0 where
+  record Left (k : kept.ClientsState) (store : Store) (served : ℕ) (cs : List Cell) (at : List Client) (owned_object : OwnedObject) : Type 0 where
     cells : SameCells p m.cells cs
     requests : SameRequests p m.active cs
     natives : SameNatives p m.sessions cs s.killed
@@ -113,7 +113,7 @@ module _ (p : Image) (formed : WellFormed p) (m : Parts) (announced : m.rest.ann
         (word_at (Dispatched (Of_object owned_object) ∷ []) q) (held cs q)
 
   -- the dispatch is one of an object then
-  ends_so : (q : Place) (k : kept.State) (store : Store) (served : ℕ) (cs : List Cell) (at : List Client) → Left k store served cs at (owned_object_of q x)
+  ends_so : (q : Place) (k : kept.ClientsState) (store : Store) (served : ℕ) (cs : List Cell) (at : List Client) → Left k store served cs at (owned_object_of q x)
       → Agrees p (record m { stack = record m.stack { tasks = Ends (Of_one x) ∷ [] }; clients = k; messages = store; served = served })
       (record (at_close s) { cells = cs; clients = at; tasks = Dispatched (Of_object (owned_object_of q x)) ∷ [] })
   ends_so q k store served cs at left = record {
@@ -177,10 +177,10 @@ module _ (p : Image) (formed : WellFormed p) (m : Parts) (announced : m.rest.ann
       }
 
   -- after a close there is no session
-  parts_so : (e : AtStage p m s x c stages.Parts) → Left (kept.after_closed c m.clients) m.messages m.served
+  parts_so : (e : AtStage p m s x c stages.Disconnects) → Left (kept.after_closed c m.clients) m.messages m.served
       (reserved (parted c) x.number s.cells) (with_client c (at_parting (client_at s.clients c)) s.clients) (owned_object_of e.place x)
   parts_so e =
-      let stage = stages.Parts in
+      let stage = stages.Disconnects in
       let same = agrees.services.clients in
       let leaves = stage_kept stage e in
       let client = leaving_below s.cells s.clients m.clients same c x.number leaves.0 in
@@ -230,7 +230,7 @@ module _ (p : Image) (formed : WellFormed p) (m : Parts) (announced : m.rest.ann
       name : its.object.name ≡ message_name does.place
       name = sym number_is ∙ sym does.number
 
-      abbrev k : kept.State
+      abbrev k : kept.ClientsState
       k = kept.after_complete does.place m.clients
 
       completed : Left k mid.messages null (without q s.cells) s.clients (owned_object_of e.place x)
@@ -272,7 +272,7 @@ module _ (p : Image) (formed : WellFormed p) (m : Parts) (announced : m.rest.ann
   Reported cs stage before now = now ≡ record before { lines = before.lines ++ stage_lines cs c (stage_of stage) }
 
   -- what is below goes on with it
-  over : (k : kept.State) (store : Store) (served : ℕ) (stage : Machine_stage) (u : State) → AtStage p m s x c stage
+  over : (k : kept.ClientsState) (store : Store) (served : ℕ) (stage : Machine_stage) (u : State) → AtStage p m s x c stage
       → Agrees p (record m { stack = record m.stack { tasks = Ends (Of_one x) ∷ [] }; clients = k; messages = store; served = served }) u →
       Agrees p (then (record m { clients = k; messages = store; served = served })) u
   over k store served _ u e h = grind (arith, nat_tests)
@@ -299,7 +299,7 @@ module _ (p : Image) (formed : WellFormed p) (m : Parts) (announced : m.rest.ann
     grind (arith, nat_tests, at_close s, over, ends_so e.place, completed code e mid now before does),
     does.line ∙ ap (λ ls. record before { lines = before.lines ++ ls }) (reported code e mid now before does),
   )
-  ends_stage stages.Parts mid before now e does = (
+  ends_stage stages.Disconnects mid before now e does = (
     grind (arith, nat_tests, at_close s, over, ends_so e.place, parts_so e),
     does.1 ∙ ap (λ ls. record before { lines = ls }) (sym (append-nil before.lines)),
   )

@@ -55,7 +55,7 @@ connects_counted places [] = refl
 connects_counted places (entry.Connect c ∷ es) = ap suc (connects_counted places es)
 connects_counted places (_ ∷ es) = connects_counted places es
 
-pub owned_objects_counted : (k : kept.State) (cs : List Cell) (clients : List Client) →
+pub owned_objects_counted : (k : kept.ClientsState) (cs : List Cell) (clients : List Client) →
     SameClients k cs clients → (n : ℕ) → length (kept.sessions_at k n) + length (filter kept.is_connect (kept.queue_at k n)) ≡ sessions_in_use (service_of cs n)
 owned_objects_counted k cs clients same n = grind (arith, nat_tests, connects_counted k.places)
 
@@ -64,7 +64,7 @@ abbrev pub found_server : ℕ → Option Listed → Option Server
 found_server most None = None
 found_server most (Some x) = Some (record { cell = x.name; most = most })
 
-module _ (p : Image) (c : ℕ) (s : State) (k : kept.State) (same : SameClients k s.cells s.clients) where
+module _ (p : Image) (c : ℕ) (s : State) (k : kept.ClientsState) (same : SameClients k s.cells s.clients) where
   -- a connect is refused on both sides alike
   pub connect_refused : (class slots : ℕ) →
       kept.connect_refusal c (found_server (most_of (kind_of p (Some class))) (asked_server p class s.cells)) k ≡ refusal p c s (Connect class slots)
@@ -79,9 +79,9 @@ module _ (p : Image) (c : ℕ) (s : State) (k : kept.State) (same : SameClients 
 
 -- servers that live are among the cells that there may be
 module _ (p : Image) (t : Typing) (wired : IsWired p) (s : State) (w : WellTyped p t s)
-    (fit : ClientsFit p s.clients s.cells) (k : kept.State) (same : SameClients k s.cells s.clients) (cells : ℕ) (sized : AreSized cells k)
+    (fit : ClientsFit p s.clients s.cells) (k : kept.ClientsState) (same : SameClients k s.cells s.clients) (cells : ℕ) (sized : AreSized cells k)
     (below : (o : Object) → named s.cells o.name ≡ Some o → is_server p o.thing ≡ true → o.name < cells) (c : ℕ) (client : c < 64) where
-  abbrev After : kept.State → State → Type 0
+  abbrev After : kept.ClientsState → State → Type 0
   After k' s' = SameClients k' s'.cells s'.clients
 
   -- ---- a connect

@@ -92,17 +92,17 @@ counted d [] (m ∷ ms) no_duplicates once same silent = absurd (false≢true (s
 counted d (c ∷ cs) ms no_duplicates once same silent =
     counted_on d c cs ms no_duplicates once same silent (counted d cs) (holds_slot d c.service.sender) refl (cases_lt c.object.name 4096)
 
-pub slots_so : (s : kept.State) (cs : List Cell) (clients : List Client) → SameClients s cs clients → NoDuplicates cs → (d : ℕ) →
+pub slots_so : (s : kept.ClientsState) (cs : List Cell) (clients : List Client) → SameClients s cs clients → NoDuplicates cs → (d : ℕ) →
     length (kept.sent_at s d) ≡ slots_taken d cs
 slots_so s cs clients same no_duplicates d = counted d cs (kept.sent_at s d) no_duplicates (same.once d) (slots_of s cs clients same d) (λ n small. same.silent n d small)
 
 -- ---- a message is completed
 
 -- the cell of that number goes from its place; it has no queue and no sessions, and no queue has it
-module _ (s : kept.State) (cs : List Cell) (clients : List Client) (same : SameClients s cs clients) (no_duplicates : NoDuplicates cs) (m : ℕ) (place : m < length s.places)
+module _ (s : kept.ClientsState) (cs : List Cell) (clients : List Client) (same : SameClients s cs clients) (no_duplicates : NoDuplicates cs) (m : ℕ) (place : m < length s.places)
     (g : Owner) (o : Object) (there : held cs g ≡ Some o) (name : o.name ≡ message_name m) (plain : ((service_of cs (message_name m)).queue ≡ []) ×
     ((service_of cs (message_name m)).sessions ≡ [])) (nowhere : (n : ℕ) → list_any (is_message (message_name m)) (service_of cs n).queue ≡ false) where
-  abbrev then : kept.State
+  abbrev then : kept.ClientsState
   then = kept.after_complete m s
 
   abbrev left : List Cell

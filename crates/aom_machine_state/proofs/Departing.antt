@@ -65,7 +65,7 @@ all_without (_ ∷ es) ms = all_without es ms
 
 module _ (k : ℕ) where
   -- clients whose connects wait are unconnected
-  pub client_after_queue : (es : List QueueEntry) (s : kept.State) (c : ℕ) →
+  pub client_after_queue : (es : List QueueEntry) (s : kept.ClientsState) (c : ℕ) →
       kept.client_at (kept.queue_gone k es s) c ≡ cond (list_any (connects c) es) Unconnected (kept.client_at s c)
   client_after_queue [] s c = refl
   client_after_queue (Connect d ∷ es) s c = grind (arith, nat_tests, client_after_queue es, at_set_none Unconnected s.clients d c, either)
@@ -73,7 +73,7 @@ module _ (k : ℕ) where
   client_after_queue (Close d ∷ es) s c = client_after_queue es (kept.gone k (Close d ∷ es) s) c
 
   -- places whose messages wait are free
-  pub place_after_queue : (es : List QueueEntry) (s : kept.State) (m : ℕ) →
+  pub place_after_queue : (es : List QueueEntry) (s : kept.ClientsState) (m : ℕ) →
       kept.place_at (kept.queue_gone k es s) m ≡ cond (list_any (is_at m) es) Free (kept.place_at s m)
   place_after_queue [] s m = refl
   place_after_queue (Connect d ∷ es) s m = place_after_queue es (kept.gone k (Connect d ∷ es) s) m
@@ -81,17 +81,17 @@ module _ (k : ℕ) where
   place_after_queue (Close d ∷ es) s m = place_after_queue es (kept.gone k (Close d ∷ es) s) m
 
   -- and hold no slot
-  sent_completed : (m : ℕ) (s : kept.State) (c : ℕ) → kept.sent_at (kept.after_complete m s) c ≡ filter (λ n. not (n == m)) (kept.sent_at s c)
+  sent_completed : (m : ℕ) (s : kept.ClientsState) (c : ℕ) → kept.sent_at (kept.after_complete m s) c ≡ filter (λ n. not (n == m)) (kept.sent_at s c)
   sent_completed m s c = get_or-map (filter (λ n. not (n == m))) s.sent c []
 
-  pub sent_after_queue : (es : List QueueEntry) (s : kept.State) (c : ℕ) → kept.sent_at (kept.queue_gone k es s) c ≡ all_without es (kept.sent_at s c)
+  pub sent_after_queue : (es : List QueueEntry) (s : kept.ClientsState) (c : ℕ) → kept.sent_at (kept.queue_gone k es s) c ≡ all_without es (kept.sent_at s c)
   sent_after_queue [] s c = refl
   sent_after_queue (Connect d ∷ es) s c = sent_after_queue es (kept.gone k (Connect d ∷ es) s) c
   sent_after_queue (Message m ∷ es) s c = grind (arith, nat_tests, sent_after_queue es, sent_completed m)
   sent_after_queue (Close d ∷ es) s c = sent_after_queue es (kept.gone k (Close d ∷ es) s) c
 
   -- the queue is empty, and all others are as they were
-  pub queue_after_queue : (es : List QueueEntry) (s : kept.State) (n : ℕ) → k < length s.queues → kept.queue_at s k ≡ es →
+  pub queue_after_queue : (es : List QueueEntry) (s : kept.ClientsState) (n : ℕ) → k < length s.queues → kept.queue_at s k ≡ es →
       kept.queue_at (kept.queue_gone k es s) n ≡ cond (k == n) [] (kept.queue_at s n)
   queue_after_queue [] s n small at = reported_there k n (kept.queue_at s) [] at
   queue_after_queue (e ∷ es) s n small at = queue_after_queue es (kept.gone k (e ∷ es) s) n
@@ -111,7 +111,7 @@ module _ (k : ℕ) where
       set_at_queue : (i : ℕ) → kept.queue_at (kept.with_queue k es s) i ≡ cond (k == i) es (kept.queue_at s i)
       set_at_queue i = at_set_or [] s.queues k i es (λ large. absurd (omega (arith, small, large)))
 
-  pub sessions_after_queue : (es : List QueueEntry) (s : kept.State) → (kept.queue_gone k es s).sessions ≡ s.sessions
+  pub sessions_after_queue : (es : List QueueEntry) (s : kept.ClientsState) → (kept.queue_gone k es s).sessions ≡ s.sessions
   sessions_after_queue [] s = refl
   sessions_after_queue (Connect d ∷ es) s = sessions_after_queue es (kept.gone k (Connect d ∷ es) s)
   sessions_after_queue (Message m ∷ es) s = sessions_after_queue es (kept.gone k (Message m ∷ es) s)
@@ -122,7 +122,7 @@ module _ (k : ℕ) where
   gone_again : (x : Client) → after_server_destroyed (after_server_destroyed x) ≡ after_server_destroyed x
   gone_again x = grind arith
 
-  pub client_after_sessions : (cs : List ℕ) (s : kept.State) (c : ℕ) →
+  pub client_after_sessions : (cs : List ℕ) (s : kept.ClientsState) (c : ℕ) →
       kept.client_at (kept.sessions_gone k cs s) c ≡ cond (list_any (λ d. d == c) cs) (after_server_destroyed (kept.client_at s c)) (kept.client_at s c)
   client_after_sessions [] s c = refl
   client_after_sessions (d ∷ cs) s c = client_after_sessions cs (kept.session_gone k (d ∷ cs) s) c
@@ -141,20 +141,20 @@ module _ (k : ℕ) where
       go false true = refl
       go _ false = refl
 
-  pub sent_after_sessions : (cs : List ℕ) (s : kept.State) (c : ℕ) →
+  pub sent_after_sessions : (cs : List ℕ) (s : kept.ClientsState) (c : ℕ) →
       kept.sent_at (kept.sessions_gone k cs s) c ≡ cond (list_any (λ d. d == c) cs) [] (kept.sent_at s c)
   sent_after_sessions [] s c = refl
   sent_after_sessions (d ∷ cs) s c = grind (arith, nat_tests, sent_after_sessions cs, at_set_none, either)
 
-  pub places_after_sessions : (cs : List ℕ) (s : kept.State) → (kept.sessions_gone k cs s).places ≡ s.places
+  pub places_after_sessions : (cs : List ℕ) (s : kept.ClientsState) → (kept.sessions_gone k cs s).places ≡ s.places
   places_after_sessions [] s = refl
   places_after_sessions (c ∷ cs) s = places_after_sessions cs (kept.session_gone k (c ∷ cs) s)
 
-  pub queues_after_sessions : (cs : List ℕ) (s : kept.State) → (kept.sessions_gone k cs s).queues ≡ s.queues
+  pub queues_after_sessions : (cs : List ℕ) (s : kept.ClientsState) → (kept.sessions_gone k cs s).queues ≡ s.queues
   queues_after_sessions [] s = refl
   queues_after_sessions (c ∷ cs) s = queues_after_sessions cs (kept.session_gone k (c ∷ cs) s)
 
-  pub sessions_after_sessions : (cs : List ℕ) (s : kept.State) (n : ℕ) →
+  pub sessions_after_sessions : (cs : List ℕ) (s : kept.ClientsState) (n : ℕ) →
       k < length s.sessions → kept.sessions_at s k ≡ cs → kept.sessions_at (kept.sessions_gone k cs s) n ≡ cond (k == n) [] (kept.sessions_at s n)
   sessions_after_sessions [] s n small at = reported_there k n (kept.sessions_at s) [] at
   sessions_after_sessions (c ∷ cs) s n small at = sessions_after_sessions cs (kept.session_gone k (c ∷ cs) s) n
@@ -166,7 +166,7 @@ module _ (k : ℕ) where
 
   -- ---- how many of each there are
 
-  pub lengths_after_queue : (es : List QueueEntry) (s : kept.State) →
+  pub lengths_after_queue : (es : List QueueEntry) (s : kept.ClientsState) →
       (length (kept.queue_gone k es s).clients ≡ length s.clients) × (length (kept.queue_gone k es s).places ≡ length s.places)
       × (length (kept.queue_gone k es s).queues ≡ length s.queues) × (length (kept.queue_gone k es s).sent ≡ length s.sent)
   lengths_after_queue [] s = (refl, refl, refl, refl)
@@ -176,7 +176,7 @@ module _ (k : ℕ) where
       (r.0, r.1 ∙ length-set s.places m Free, r.2 ∙ length-set s.queues k es, r.3 ∙ length-map s.sent (λ ms. filter (λ n. not (n == m)) ms))
   lengths_after_queue (Close d ∷ es) s = grind (arith, nat_tests, lengths_after_queue es, length-set s.queues k es)
 
-  pub lengths_after_sessions : (cs : List ℕ) (s : kept.State) → (length (kept.sessions_gone k cs s).clients ≡ length s.clients)
+  pub lengths_after_sessions : (cs : List ℕ) (s : kept.ClientsState) → (length (kept.sessions_gone k cs s).clients ≡ length s.clients)
       × (length (kept.sessions_gone k cs s).sessions ≡ length s.sessions) × (length (kept.sessions_gone k cs s).sent ≡ length s.sent)
   lengths_after_sessions [] s = (refl, refl, refl)
   lengths_after_sessions (c ∷ cs) s =

@@ -55,24 +55,24 @@ module _ (p : Image) (t : Typing) (s : State) (w : WellTyped p t s) (fit : Clien
   waits_well : (n m : ℕ) → has_message (service_of s.cells n) m ≡ true → (x : Object) × (held s.cells (waiting n m) ≡ Some x)
   waits_well n m has = grind (arith, nat_tests, own_held p, waits_as n m (Own A_message Ready), named_name s.cells n, service_unnamed s.cells n)
 
-  pub queued_shows : (k : kept.State) → SameClients k s.cells s.clients → (n m : ℕ) →
+  pub queued_shows : (k : kept.ClientsState) → SameClients k s.cells s.clients → (n m : ℕ) →
       cond (list_any (is_numbered m) (queue_at k n)) m null ≡ number (held s.cells (Elsewhere (Queued n m)))
   queued_shows k same n m = grind (arith, nat_tests, numbered_asked k.places m, waits_well n m, fits_unowning p, waits_as n m Null)
 
 -- ---- the sessions of clients
 
 -- a client is at something else, and by that one place has another number
-sessions_now : (s s' : kept.State) (c k x : ℕ) (to : Client) →
+sessions_now : (s s' : kept.ClientsState) (c k x : ℕ) (to : Client) →
     ((d : ℕ) → client_at s' d ≡ cond (c == d) to (client_at s d)) → ((n : ℕ) → session_with n to ≡ cond (k == n) x (session_with n (client_at s c)))
     → (n d : ℕ) → session_with n (client_at s' d) ≡ cond ((k == n) && (c == d)) x (session_with n (client_at s d))
 sessions_now s s' c k x to at here n d = grind (arith, nat_tests, eqb-true c d)
 
 -- the queues show the same messages
-abbrev pub ShowSame : kept.State → kept.State → Type 0
+abbrev pub ShowSame : kept.ClientsState → kept.ClientsState → Type 0
 ShowSame s s' = (n m : ℕ) → list_any (is_numbered m) (queue_at s' n) ≡ list_any (is_numbered m) (queue_at s n)
 
 -- so a place of a session alone has another number
-session_written : (others : Others) (s' : kept.State) (c k x : ℕ) → ((n d : ℕ) → session_with n (client_at s' d)
+session_written : (others : Others) (s' : kept.ClientsState) (c k x : ℕ) → ((n d : ℕ) → session_with n (client_at s' d)
     ≡ cond ((k == n) && (c == d)) x (session_with n (client_at others.clients d))) → ShowSame others.clients s' → (us : List Machine_task) (h : Heap)
     (es : List Item) (r : Place) → value_in us h es (record others { clients = s' }) r ≡ changed (value_in us h es others) (Elsewhere (Session k c)) x r
 session_written others s' c k x sessions queues us h es r = elsewhere_written us h es others (record others { clients = s' }) (Session k c) x other r
@@ -96,17 +96,17 @@ no_close_shows : (c m : ℕ) (e : QueueEntry) → kept.is_no_close_of c e ≡ fa
 no_close_shows c m e gone = grind arith
 
 -- a client is at something else
-client_now : (s : kept.State) (c : ℕ) (to : Client) → c < length s.clients → (d : ℕ) → client_at (kept.with_client c to s) d ≡ cond (c == d) to (client_at s d)
+client_now : (s : kept.ClientsState) (c : ℕ) (to : Client) → c < length s.clients → (d : ℕ) → client_at (kept.with_client c to s) d ≡ cond (c == d) to (client_at s d)
 client_now s c to small d = at_set Unconnected s.clients c d to small
 
 module _ (others : Others) (us : List Machine_task) (h : Heap) (es : List Item) (c k : ℕ) (client : c < length others.clients.clients) where
-  abbrev s : kept.State
+  abbrev s : kept.ClientsState
   s = others.clients
 
   abbrev before : Place → ℕ
   before = value_in us h es others
 
-  abbrev after : kept.State → Place → ℕ
+  abbrev after : kept.ClientsState → Place → ℕ
   after s' = value_in us h es (record others { clients = s' })
 
   -- a connect is served, with a session
@@ -115,7 +115,7 @@ module _ (others : Others) (us : List Machine_task) (h : Heap) (es : List Item) 
   session_opened slots session was small r = ap (λ x. after (kept.opened x (Some session) c s) r) was ∙ session_written others then c k session
       (sessions_now s then c k session (Open k session slots) (client_now s c (Open k session slots) client) here) queues us h es r
     where
-      then : kept.State
+      then : kept.ClientsState
       then = kept.opened (Connecting k slots) (Some session) c s
 
       reported : session_number session ≡ session
@@ -133,13 +133,13 @@ module _ (others : Others) (us : List Machine_task) (h : Heap) (es : List Item) 
   session_released with_it r = grind (arith, nat_tests, session_written, sessions_now, client_now)
 
   -- the same places have the same numbers
-  unmoved : (s' : kept.State) → ((n d : ℕ) → session_with n (client_at s' d) ≡ session_with n (client_at s d)) → ShowSame s s' → (r : Place) → after s' r ≡ before r
+  unmoved : (s' : kept.ClientsState) → ((n d : ℕ) → session_with n (client_at s' d) ≡ session_with n (client_at s d)) → ShowSame s s' → (r : Place) → after s' r ≡ before r
   unmoved s' sessions queues (Elsewhere (Session n d)) = sessions n d
   unmoved s' sessions queues (Elsewhere (Queued n m)) = ap (λ b. cond b m null) (queues n m)
   unmoved s' sessions queues _ = refl
 
   -- a client is at something else, and has no cell of a session before or after, or the same one
-  sessions_same : (s' : kept.State) (to : Client) → ((d : ℕ) → client_at s' d ≡ cond (c == d) to (client_at s d)) →
+  sessions_same : (s' : kept.ClientsState) (to : Client) → ((d : ℕ) → client_at s' d ≡ cond (c == d) to (client_at s d)) →
       ((n : ℕ) → session_with n to ≡ session_with n (client_at s c)) → (n d : ℕ) → session_with n (client_at s' d) ≡ session_with n (client_at s d)
   sessions_same s' to at here n d = grind (arith, nat_tests, eqb-true c d)
 
@@ -148,7 +148,7 @@ module _ (others : Others) (us : List Machine_task) (h : Heap) (es : List Item) 
   connect_left slots was r = ap (λ x. after (kept.opened x None c s) r) was
       ∙ unmoved then (sessions_same then Unconnected (client_now s c Unconnected client) (λ n. ap (session_with n) (sym was))) queues r
     where
-      then : kept.State
+      then : kept.ClientsState
       then = kept.opened (Connecting k slots) None c s
 
       queues : ShowSame s then
@@ -181,7 +181,7 @@ module _ (others : Others) (us : List Machine_task) (h : Heap) (es : List Item) 
 -- ---- a queue
 
 -- the queue of a server is another, by which one message comes or goes
-queue_written : (others : Others) (s' : kept.State) (k m x : ℕ) (to : List QueueEntry) → ((n d : ℕ) → session_with n (client_at s' d) ≡ session_with n
+queue_written : (others : Others) (s' : kept.ClientsState) (k m x : ℕ) (to : List QueueEntry) → ((n d : ℕ) → session_with n (client_at s' d) ≡ session_with n
     (client_at others.clients d)) → ((n : ℕ) → queue_at s' n ≡ cond (k == n) to (queue_at others.clients n)) → ((j : ℕ) → cond (list_any (is_numbered j) to)
     j null ≡ cond (m == j) x (cond (list_any (is_numbered j) (queue_at others.clients k)) j null)) → (us : List Machine_task) (h : Heap) (es : List Item)
     (r : Place) → value_in us h es (record others { clients = s' }) r ≡ changed (value_in us h es others) (Elsewhere (Queued k m)) x r
@@ -218,16 +218,16 @@ entry_taken others k e rest small first none us h es r = grind (arith, nat_tests
 -- ---- where many messages come or go at once: what is no message in a queue is as it was
 
 -- the sessions have the same numbers
-abbrev pub SessionsSame : kept.State → kept.State → Type 0
+abbrev pub SessionsSame : kept.ClientsState → kept.ClientsState → Type 0
 SessionsSame s s' = (n d : ℕ) → session_with n (client_at s' d) ≡ session_with n (client_at s d)
 
 -- the number of any place but of those in queues
-pub others_same : (others : Others) (s' : kept.State) → SessionsSame others.clients s' → (us : List Machine_task) (h : Heap) (es : List Item) (r : Place) →
+pub others_same : (others : Others) (s' : kept.ClientsState) → SessionsSame others.clients s' → (us : List Machine_task) (h : Heap) (es : List Item) (r : Place) →
     ((n m : ℕ) → r ≡ Elsewhere (Queued n m) → ⊥) → value_in us h es (record others { clients = s' }) r ≡ value_in us h es others r
 others_same others s' sessions us h es x aside = grind arith
 
 -- what places show goes on so where messages come and go in queues alone
-pub shows_again : (p : Image) (t : Typing) (s : State) (others : Others) (s' : kept.State) (us : List Machine_task) (h : Heap) (es : List Item)
+pub shows_again : (p : Image) (t : Typing) (s : State) (others : Others) (s' : kept.ClientsState) (us : List Machine_task) (h : Heap) (es : List Item)
     (cs : List Cell) (ts : List Task) → WellTyped p t s → ClientsFit p s.clients s.cells → SameClients s' s.cells s.clients → SessionsSame others.clients s'
     → ((r : Place) → ((n m : ℕ) → r ≡ Elsewhere (Queued n m) → ⊥) → held s.cells r ≡ held cs r) → ((r : Place) → Represents (value_in us h es others r)
     (word_at ts r) (held cs r)) → (r : Place) → Represents (value_in us h es (record others { clients = s' }) r) (word_at ts r) (held s.cells r)

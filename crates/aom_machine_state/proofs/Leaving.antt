@@ -72,7 +72,7 @@ once_asked clients n places (_ ∷ es) fits = once_asked clients n places es fit
 
 -- ---- what goes
 
-module _ (p : Image) (t : Typing) (wired : IsWired p) (s : State) (w : WellTyped p t s) (fit : ClientsFit p s.clients s.cells) (k : kept.State)
+module _ (p : Image) (t : Typing) (wired : IsWired p) (s : State) (w : WellTyped p t s) (fit : ClientsFit p s.clients s.cells) (k : kept.ClientsState)
     (same : SameClients k s.cells s.clients) where
   -- what a queue owns is a message
   waiting_message : (n : ℕ) (x : Cell) → cell_of s.cells n ≡ Some x → is_queue x.owner ≡ true → is_object x.object.thing ≡ false

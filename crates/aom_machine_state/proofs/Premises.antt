@@ -141,7 +141,7 @@ module _ (p : Image) (t : Typing) (wired : IsWired p) (s : State) (w : WellTyped
 
   -- ---- beside the machine's
 
-  module _ (k : kept.State) (same : SameClients k s.cells clients) where
+  module _ (k : kept.ClientsState) (same : SameClients k s.cells clients) where
     asked_at : (n j : ℕ) → list_any (is_at j) (kept.queue_at k n) ≡ true → has_message (service_of s.cells n) (message_name j) ≡ true
     asked_at n j h = ap (λ q. list_any (is_message (message_name j)) q) (sym (same.queues n)) ∙ asks_message k.places (kept.queue_at k n) j ∙ h
 
@@ -197,7 +197,7 @@ module _ (p : Image) (t : Typing) (wired : IsWired p) (s : State) (w : WellTyped
     completes_at g o m there apart sent name = grind (arith, nat_tests, taken_sent, has_sender, owner_held)
 
 -- a client that is at something is one of those that there are
-module _ (cs : List Cell) (clients : List Client) (k : kept.State) (same : SameClients k cs clients) (c : ℕ) where
+module _ (cs : List Cell) (clients : List Client) (k : kept.ClientsState) (same : SameClients k cs clients) (c : ℕ) where
   busy_below : (client_at clients c ≡ Unconnected → ⊥) → c < 64
   busy_below busy = grind (arith, nat_tests, cases_lt c 64, get_or_past k.clients c Unconnected)
 

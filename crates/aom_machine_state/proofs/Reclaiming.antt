@@ -140,7 +140,7 @@ client_alike false true x = gone_sessionless x
 client_alike false false x = refl
 
 -- the object at g goes; it is none of messages, and nothing is a message in its queue but what is asked of it
-module _ (s : kept.State) (cs : List Cell) (clients : List Client) (same : SameClients s cs clients) (no_duplicates : NoDuplicates cs) (o : Object) (g : Owner) (there : held cs
+module _ (s : kept.ClientsState) (cs : List Cell) (clients : List Client) (same : SameClients s cs clients) (no_duplicates : NoDuplicates cs) (o : Object) (g : Owner) (there : held cs
     g ≡ Some o) (apart : is_queue g ≡ false) (small : o.name < 4096) (queue_room : o.name < length s.queues) (session_room : o.name < length s.sessions)
     (empty : (n : ℕ) (x : Cell) → cell_of cs n ≡ Some x → is_queue x.owner ≡ true → (x.service.queue ≡ []) × (x.service.sessions ≡ [])) (asked : (m : ℕ)
     (x : Object) → held cs (Elsewhere (Waits_at o.name m)) ≡ Some x → (x.name ≡ m) × (has_message (service_of cs o.name) m ≡ true)) (waiting : (n m : ℕ) →
@@ -164,10 +164,10 @@ module _ (s : kept.State) (cs : List Cell) (clients : List Client) (same : SameC
   abbrev left : List Cell
   left = each_slot_released xs stay
 
-  abbrev between : kept.State
+  abbrev between : kept.ClientsState
   between = kept.queue_gone k es s
 
-  abbrev then : kept.State
+  abbrev then : kept.ClientsState
   then = kept.server_gone k s
 
   -- the message of a place goes

@@ -111,7 +111,7 @@ module _ (p : Image) (t : Typing) (s : State) (w : WellTyped p t s) (g : Place) 
       place_below = grind (arith, nat_tests, cases_lt place 1024, message_kept)
 
     -- where it waits in no queue and has a sender its completion is told
-    module _ (wired : IsWired p) (kept_so : StateInvariant p s) (apart : is_queue g ≡ false) (k : kept.State) (same : SameClients k s.cells s.clients) where
+    module _ (wired : IsWired p) (kept_so : StateInvariant p s) (apart : is_queue g ≡ false) (k : kept.ClientsState) (same : SameClients k s.cells s.clients) where
       pub was_taken : is_queued (kept.place_at k place) ≡ false
       was_taken = same.waits place ∙ ap waits_in (ap (owner_of s.cells) (sym name) ∙ owner_held s.cells w.good.no_duplicates g o there) ∙ apart
 
@@ -119,7 +119,7 @@ module _ (p : Image) (t : Typing) (s : State) (w : WellTyped p t s) (g : Place) 
       completion_reported sent = completes_at p t wired s w s.clients kept_so.fit k same g o place there apart sent name
 
     module _ (wired : IsWired p) (kept_so : StateInvariant p s) (apart : is_queue g ≡ false) (sent : has_sender s.cells o.name ≡ true)
-        (k : kept.State) (store : Store) (tokens : Kept) (table : Table) (same : SameServices p k store tokens table s.cells s.clients) where
+        (k : kept.ClientsState) (store : Store) (tokens : Kept) (table : Table) (same : SameServices p k store tokens table s.cells s.clients) where
       -- no token goes
       tokens_completed : SameTokens p tokens left
       tokens_completed = tokens_still p tokens s.cells left (λ n. ap awaited (beside_completed.requests n)) (λ m. reports m (place == m) refl) same.tokens

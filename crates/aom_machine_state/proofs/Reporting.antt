@@ -32,7 +32,7 @@ gone_lines places (Close c) = []
 reported_place : (code : ℤ) (slot : Bool) (x : MessagePlace) → is_queued x ≡ false → reported_line code (sent_by slot x) ≡ completed_lines code (completion x)
 reported_place code slot x e = grind arith
 
-module _ (k : kept.State) (cs : List Cell) (clients : List Client) (same : SameClients k cs clients) where
+module _ (k : kept.ClientsState) (cs : List Cell) (clients : List Client) (same : SameClients k cs clients) where
   -- a message that was taken
   pub message_reported : (o : Object) (m : ℕ) (code : ℤ) →
       o.name ≡ message_name m → is_queued (kept.place_at k m) ≡ false → message_line cs (Some o) code ≡ completed_lines code (completion (kept.place_at k m))

@@ -38,7 +38,7 @@ use Rattle.aom_machine_state.specs.Serving.{AreSized, SameClients, message_name,
 
 -- ---- clients on both sides
 
-pub connecting_here : (k : kept.State) (cs : List Cell) (clients : List Client) →
+pub connecting_here : (k : kept.ClientsState) (cs : List Cell) (clients : List Client) →
     SameClients k cs clients → (n c : ℕ) → is_connecting_at n (client_at clients c) ≡ true → (slots : ℕ) × (kept.client_at k c ≡ Connecting n slots)
 connecting_here k cs clients same n c at = grind (arith, nat_tests)
 
@@ -47,7 +47,7 @@ released_sessionless x = grind arith
 
 -- ---- a session is at hand to go
 
-pub same_released : (k : kept.State) (cs : List Cell) (clients : List Client) → SameClients k cs clients → (c : ℕ) → SameClients (kept.after_release c k) cs clients
+pub same_released : (k : kept.ClientsState) (cs : List Cell) (clients : List Client) → SameClients k cs clients → (c : ℕ) → SameClients (kept.after_release c k) cs clients
 same_released k cs clients same c = grind (
   arith,
   nat_tests,
@@ -72,7 +72,7 @@ reserved_moved f cs a b n = ap (λ v. set_service n (f v) (moved a b cs)) (servi
 -- ---- all parts of a service
 
 module _ (p : Image) (t : Typing) (wired : IsWired p) (s : State) (w : WellTyped p t s)
-    (fit : ClientsFit p s.clients s.cells) (k : kept.State) (same : SameClients k s.cells s.clients) (cells : ℕ) (sized : AreSized cells k) where
+    (fit : ClientsFit p s.clients s.cells) (k : kept.ClientsState) (same : SameClients k s.cells s.clients) (cells : ℕ) (sized : AreSized cells k) where
   -- `accept` gave a session
   module _ (x : OwnedObject) (c : ℕ) (lives : named s.cells x.object.name ≡ Some x.object) (below : x.object.name < cells)
       (kept_so : StageKept p s.clients s.cells x.object c Accepts) where

@@ -136,32 +136,32 @@ taken_by : (slot : Bool) (x : MessagePlace) → is_some (sent_by slot x) ≡ is_
 taken_by slot x = grind arith
 
 -- are those whose message has a sender
-pub taken_sent : (s : kept.State) (cs : List Cell) (clients : List Client) → SameClients s cs clients → (m : ℕ) →
+pub taken_sent : (s : kept.ClientsState) (cs : List Cell) (clients : List Client) → SameClients s cs clients → (m : ℕ) →
     is_taken (kept.place_at s m) ≡ is_some (service_of cs (message_name m)).sender
 taken_sent s cs clients same m = sym (taken_by (holds s m) (kept.place_at s m)) ∙ ap is_some (same.senders m)
 
 -- ---- the slots
 
 -- a message is among its client's where it holds a slot
-pub slots_of : (s : kept.State) (cs : List Cell) (clients : List Client) → SameClients s cs clients → (c m : ℕ) →
+pub slots_of : (s : kept.ClientsState) (cs : List Cell) (clients : List Client) → SameClients s cs clients → (c m : ℕ) →
     is_among m (kept.sent_at s c) ≡ holds_slot c (service_of cs (message_name m)).sender
 slots_of s cs clients same c m = grind (arith, nat_tests, eqb-true)
 
 -- ---- a client is at something else, and nothing is asked
 
 -- clients are at other things, and what waits is told alike
-pub listed_as : (s : kept.State) (cs : List Cell) (clients after xs : List Client) (queues : List (List QueueEntry)) → SameClients s cs clients →
+pub listed_as : (s : kept.ClientsState) (cs : List Cell) (clients after xs : List Client) (queues : List (List QueueEntry)) → SameClients s cs clients →
     ((c : ℕ) → sessionless (slice_index_or xs c Unconnected) ≡ client_at after c) → ((n : ℕ) → map (asked_by s.places) (slice_index_or queues n [])
     ≡ (service_of cs n).queue) → length xs ≡ length s.clients → SameClients (record s { clients = xs; queues = queues }) cs after
 listed_as s cs clients after xs queues same at waits long = let many = long ∙ same.many in assumption many
 
-pub same_client : (s : kept.State) (cs : List Cell) (clients : List Client) →
+pub same_client : (s : kept.ClientsState) (cs : List Cell) (clients : List Client) →
     SameClients s cs clients → (c : ℕ) → c < 64 → (to : Client) → SameClients (kept.with_client c to s) cs (with_client c (sessionless to) clients)
 same_client s cs clients same c client to = grind (arith, nat_tests, listed_as s cs clients, client_set s.clients clients c to, length-set s.clients c to)
 
 -- ---- a connect
 
-module _ (s : kept.State) (cs : List Cell) (clients : List Client) (same : SameClients s cs clients) (o : Object) (lives : named cs o.name ≡ Some o)
+module _ (s : kept.ClientsState) (cs : List Cell) (clients : List Client) (same : SameClients s cs clients) (o : Object) (lives : named cs o.name ≡ Some o)
     (c : ℕ) (client : c < 64) where
   numbered : c < length s.clients
   numbered = subst (λ n. c < n) (sym same.many) client
@@ -265,7 +265,7 @@ module _ (s : kept.State) (cs : List Cell) (clients : List Client) (same : SameC
     abbrev from : Owner
     from = Elsewhere (Waits_at o.name (message_name m))
 
-    abbrev taken : kept.State
+    abbrev taken : kept.ClientsState
     taken = kept.with_place m (held_place (kept.place_at s m)) (kept.with_queue o.name es s)
 
     abbrev cs' : List Cell
@@ -314,7 +314,7 @@ module _ (s : kept.State) (cs : List Cell) (clients : List Client) (same : SameC
   -- at a place that is free, with a number that is free, which is asked for nowhere
   module _ (m : ℕ) (words : List ℤ) (queue : o.name < length s.queues) (place : m < length s.places) (unused : named cs (message_name m) ≡ None)
       (nowhere : (n : ℕ) → list_any (is_message (message_name m)) (service_of cs n).queue ≡ false) where
-    abbrev sent : kept.State
+    abbrev sent : kept.ClientsState
     sent = kept.queued o.name (Message m) (kept.with_sent c (kept.sent_at s c ++ m ∷ []) (kept.with_place m (Queued c) s))
 
     abbrev message : Cell

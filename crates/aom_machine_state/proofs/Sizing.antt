@@ -13,8 +13,8 @@ use Rattle.aom_clients.specs.declared.server.Server.{Server}
 use Rattle.aom_machine_state.proofs.Departing.{lengths_after_queue, lengths_after_sessions, sessions_after_queue, places_after_sessions, queues_after_sessions}
 use Rattle.aom_machine_state.specs.Serving.{AreSized}
 
-module _ (cells : ℕ) (k : kept.State) (sized : AreSized cells k) where
-  sized_so : (k' : kept.State) → length k'.places ≡ length k.places → length k'.queues ≡ length k.queues → length k'.sessions ≡ length k.sessions → AreSized cells k'
+module _ (cells : ℕ) (k : kept.ClientsState) (sized : AreSized cells k) where
+  sized_so : (k' : kept.ClientsState) → length k'.places ≡ length k.places → length k'.queues ≡ length k.queues → length k'.sessions ≡ length k.sessions → AreSized cells k'
   sized_so k' places queues sessions = record { places = places ∙ sized.places; queues = queues ∙ sized.queues; sessions = sessions ∙ sized.sessions }
 
   -- ---- a service

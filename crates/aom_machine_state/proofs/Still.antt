@@ -29,7 +29,7 @@ pub still_itself : (cs : List Cell) → Still cs cs
 still_itself cs = record { services = λ n. refl; owners = λ m. refl }
 
 -- which messages are tokens is no matter of clients
-module _ (s : kept.State) (cs cs' : List Cell) (clients : List Client) where
+module _ (s : kept.ClientsState) (cs cs' : List Cell) (clients : List Client) where
   pub same_unreported : ((n : ℕ) → unreported (service_of cs' n) ≡ unreported (service_of cs n)) →
       ((m : ℕ) → waits_in (owner_of cs' (message_name m)) ≡ waits_in (owner_of cs (message_name m))) → SameClients s cs clients → SameClients s cs' clients
   same_unreported services owners same = record {

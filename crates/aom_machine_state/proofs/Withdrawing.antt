@@ -120,10 +120,10 @@ module _ (c : ℕ) (places : List MessagePlace) where
 -- ---- all of it
 
 -- what waits in a queue has no queue and no sessions of its own
-module _ (s : kept.State) (cs : List Cell) (clients : List Client) (same : SameClients s cs clients) (no_duplicates : NoDuplicates cs) (c : ℕ) (client : c < 64)
+module _ (s : kept.ClientsState) (cs : List Cell) (clients : List Client) (same : SameClients s cs clients) (no_duplicates : NoDuplicates cs) (c : ℕ) (client : c < 64)
     (plain : (n : ℕ) (x : Cell) → cell_of cs n ≡ Some x → is_queue x.owner ≡ true → (x.service.queue ≡ []) × (x.service.sessions ≡ []))
     (waiting : (n : ℕ) → AllWait s.places (kept.queue_at s n)) where
-  abbrev then : kept.State
+  abbrev then : kept.ClientsState
   then = kept.withdrawn c s
 
   abbrev left : List Cell
@@ -239,7 +239,7 @@ module _ (s : kept.State) (cs : List Cell) (clients : List Client) (same : SameC
   -- its close is asked for where its session was open
   module _ (p : Image) (st : State) (to : Client) (tidy_left : NoDuplicates left) (server : (n session slots : ℕ) → kept.client_at s c ≡ Open n session slots →
       (o : Object) × (o.name ≡ n) × (named left o.name ≡ Some o) × (o.name < length then.queues)) where
-    abbrev moved : kept.State
+    abbrev moved : kept.ClientsState
     moved = kept.with_client c to then
 
     now : SameClients moved left (with_client c (sessionless to) clients)

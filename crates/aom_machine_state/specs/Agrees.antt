@@ -98,7 +98,7 @@ stage_of stages.Accepted = checked.Accepted
 stage_of (stages.AcceptLeft code) = checked.Accept_left code
 stage_of (stages.Serves x) = checked.Serves (subject_of x)
 stage_of (stages.ServiceLeft code) = checked.Service_left code
-stage_of stages.Parts = checked.Parts
+stage_of stages.Disconnects = checked.Disconnects
 
 abbrev pub dispatch_of : Place → Machine_dispatch → Dispatch
 dispatch_of q Main = Of_main

@@ -41,7 +41,7 @@ going_in (t ∷ ts) d = cond (length ts == d) (going_of t) (going_in ts d)
 pub record Others : Type 0 where
   pub root : ℕ
   pub served : ℕ
-  pub clients : kept.State
+  pub clients : kept.ClientsState
 
 -- the number of a session's cell, and null where it is at hand to go
 abbrev pub session_number : ℕ → ℕ

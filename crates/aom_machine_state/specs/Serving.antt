@@ -42,7 +42,7 @@ is_taken Free = false
 is_taken other = true
 
 -- the message of a place holds a slot of its client's session
-abbrev pub holds : kept.State → ℕ → Bool
+abbrev pub holds : kept.ClientsState → ℕ → Bool
 holds s place = is_among place (kept.sent_at s (sender (kept.place_at s place)))
 
 -- the place that owns the cell of that name
@@ -61,7 +61,7 @@ Once [] = Unit {0}
 Once (m ∷ ms) = (is_among m ms ≡ false) × Once ms
 
 -- each client is at the same, each server has the same queue and the same sessions, and each message place the sender of the message of that number
-pub record SameClients (s : kept.State) (cs : List Cell) (clients : List Client) : Type 0 where
+pub record SameClients (s : kept.ClientsState) (cs : List Cell) (clients : List Client) : Type 0 where
   pub at : (c : ℕ) → sessionless (kept.client_at s c) ≡ client_at clients c
   pub queues : (n : ℕ) → map (asked_by s.places) (kept.queue_at s n) ≡ (service_of cs n).queue
   pub sessions : (n : ℕ) → kept.sessions_at s n ≡ (service_of cs n).sessions
@@ -78,7 +78,7 @@ pub record SameClients (s : kept.State) (cs : List Cell) (clients : List Client)
   pub lists : length s.sent ≡ 64
 
 -- so many cells may be servers, and there are 1,024 places of messages
-pub record AreSized (cells : ℕ) (s : kept.State) : Type 0 where
+pub record AreSized (cells : ℕ) (s : kept.ClientsState) : Type 0 where
   pub places : length s.places ≡ 1024
   pub queues : length s.queues ≡ cells
   pub sessions : length s.sessions ≡ cells

@@ -3,7 +3,7 @@ use Rattle.std.proofs.Common.{◌≡◌, ℕ, suc, true, false, nat_lt, cond, �
 use Rattle.std.proofs.Common.{slice_get, Some, None, drop, inl, inr, sym, ap, ◌∙◌, Ok, Err, arith}
 use Rattle.std.proofs.lemmas.Bool.{le-leb, lt-leb, lt-ltb, le-ltb}
 use Rattle.std.proofs.lemmas.Option.{slice_get_within}
-use Rattle.std.proofs.lemmas.Bool.Decides.{leb_reports}
+use Rattle.std.proofs.lemmas.Bool.Decides.{leb_tells}
 use Rattle.std.proofs.Math.ListN.{drop_of_length-le}
 use Rattle.std.specs.Prelude.{slice_index_or}
 use Rattle.aom_image.specs.Image.{Image}
@@ -49,7 +49,7 @@ pub rule_past : (p : Image) (sh : AbstractState) (xs : List Argument) (first : �
 rule_past p sh xs first h = ap (λ b. cond b (tested (each_argument p sh xs first)) (Err RegisterKind)) (lt-leb (first + length xs) 16 h)
 
 pub arguments_fit : (p : Image) (sh : AbstractState) (xs : List Argument) (first : ℕ) (u : Unit {0}) → tested (rule_arguments p sh xs first) ≡ Ok u → first + length xs ≤ 16
-arguments_fit p sh xs first u e = elim (leb_reports (first + length xs) 16) [
+arguments_fit p sh xs first u e = elim (leb_tells (first + length xs) 16) [
   | inl w ↦ w.1
   | inr w ↦ let clash : Err RegisterKind ≡ Ok u = sym (rule_past p sh xs first w.1) ∙ e in absurd cc
 ]
@@ -63,7 +63,7 @@ entry_there es k x e = (lt-ltb k (length es) (slice_get_within es k x e), found 
     found _ _ x e = cc
 
 pub entry_missing : (es : List CleanupEntry) (k : ℕ) → slice_get es k ≡ None → nat_lt k (length es) ≡ false
-entry_missing es k e = elim (leb_reports (length es) k) [
+entry_missing es k e = elim (leb_tells (length es) k) [
   | inl w ↦ le-ltb k (length es) w.1
   | inr w ↦ absurd (there es k w.1 e)
 ]

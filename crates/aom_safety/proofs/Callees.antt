@@ -2,7 +2,7 @@
 use Rattle.std.proofs.lemmas.Bool.Decides.{nat_tests}
 use Rattle.std.proofs.Common.{[], Bool, List, None, Option, Some, arith, false, inl, inr, length, refl, suc, true, ℕ, ◌+◌, ◌<◌, ◌∷◌, ◌≡◌, ◌≤◌}
 use Rattle.std.proofs.lemmas.Bool.{ne_eqb}
-use Rattle.std.proofs.lemmas.Bool.Decides.{leb_reports}
+use Rattle.std.proofs.lemmas.Bool.Decides.{leb_tells}
 use Rattle.std.specs.Prelude.{not, replicate, ◌⊎◌}
 use Rattle.aom_image.specs.Image.{Image}
 use Rattle.aom_image.specs.declared.method.Argument.{Argument}
@@ -48,7 +48,7 @@ only_then x b e h = grind arith
 
 -- a register that is no argument
 pub apart_from : (first count r : ℕ) → not (is_among first count r) ≡ true → (r < first) ⊎ ((first + count) ≤ r)
-apart_from first count r e = grind (arith, leb_reports first r, leb_reports (suc r) (first + count))
+apart_from first count r e = grind (arith, leb_tells first r, leb_tells (suc r) (first + count))
 
 pub moved_fields : (xs : List Argument) (first : ℕ) (sh : AbstractState) → (arguments_moved xs first sh).fields ≡ sh.fields
 moved_fields [] first sh = refl

@@ -1,7 +1,7 @@
 -- The states of the methods, put together, are a typing of the image, and a typing has the states of each method.
 use Rattle.std.proofs.lemmas.Bool.Decides.{nat_tests}
 use Rattle.std.proofs.Common.{◌≡◌, ℕ, zero, suc, ◌<◌, ◌+◌, List, [], ◌∷◌, ◌++◌, length, length-append, Some, None, IsSome, inl, inr, refl, arith}
-use Rattle.std.proofs.lemmas.Bool.Decides.{eqb_reports, leb_reports}
+use Rattle.std.proofs.lemmas.Bool.Decides.{eqb_tells, leb_tells}
 use Rattle.aom_image.specs.Image.{Image}
 use Rattle.aom_image.specs.Views.{method_at}
 use Rattle.aom_static_bounds.proofs.LinkConditionsLemmas.{within}
@@ -70,7 +70,7 @@ at_before (x ∷ xs) s (suc m) h = at_before xs s m (omega arith)
 pub first_more : (p : Image) (t : Typing) (n : ℕ) (s : Shapes) → AreFirst p t n → IsMethodStrongest p n s → AreFirst p (t ++ s ∷ []) (n + 1)
 first_more p t n s h k = record {
   size = omega (arith, length-append t (s ∷ []), h.size);
-  each = λ m below. elim (eqb_reports m n) [
+  each = λ m below. elim (eqb_tells m n) [
     | inl w ↦ rw (w.1, ← h.size, at_last t s, h.size) k
     | inr w ↦ rw (at_before t s m (omega (arith, w.1, h.size))) (h.each m (omega (arith, w.1)))
   ];
@@ -80,7 +80,7 @@ first_more p t n s h k = record {
 pub image_strongest : (p : Image) (t : Typing) → AreFirst p t (length p.methods) → IsStrongest p t
 image_strongest p t h = record {
   typed = record {
-    each = grind (arith, nat_tests, leb_reports, at_past, passes p t);
+    each = grind (arith, nat_tests, leb_tells, at_past, passes p t);
     entry = λ m some. let k = (h.each m (method_within p m some)).typed.entry in (k.next, k.there, k.implied);
   };
   each = λ m some. h.each m (method_within p m some);
@@ -91,4 +91,4 @@ image_strongest p t h = record {
 
 -- a method with its strongest states is one of those that have states
 pub has_states : (p : Image) (t : Typing) (m : ℕ) → IsMethodStrongest p m (at [] t m) → m < length t
-has_states p t m h = grind (arith, nat_tests, leb_reports, at_past)
+has_states p t m h = grind (arith, nat_tests, leb_tells, at_past)

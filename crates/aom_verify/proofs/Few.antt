@@ -1,7 +1,7 @@
 -- The states of a method have fewer cleanup entries than there are places reached, and so fewer than it has places.
 use Rattle.std.proofs.Common.{◌≡◌, ℕ, zero, suc, ◌<◌, ◌≤◌, List, [], ◌∷◌, ◌++◌, length, Option, Some, None, slice_set, slice_index_or, replicate, inl, inr}
 use Rattle.std.proofs.Common.{refl, sym, ◌∙◌, ap, arith}
-use Rattle.std.proofs.lemmas.Bool.Decides.{eqb_reports}
+use Rattle.std.proofs.lemmas.Bool.Decides.{eqb_tells}
 use Rattle.std.proofs.lemmas.List.{length-set, length-replicate}
 use Rattle.std.proofs.lemmas.List.Sums.{sum_by-set, sum_by-cons}
 use Rattle.aom_image.specs.Image.{Image}
@@ -28,7 +28,7 @@ few_first s to sh h within e few =
     let one_less = sum_by-set unreached s to (Some sh) None within in
     let was = ap unreached read in
     record {
-      each = λ pc x f. elim (eqb_reports pc to) [
+      each = λ pc x f. elim (eqb_tells pc to) [
         | inl w ↦
             let same : sh ≡ x = let here = rw w.1 at f in let there = at_set_here None s to (Some sh) within in cc in
             rw (← same) (omega (arith, one_less, was, few, length-set s to (Some sh)))
@@ -47,7 +47,7 @@ few_lower s to sh there less h within e meet =
     let was = ap unreached read in
     let kept = ap (λ es. length es) meet.first.entries in
     record {
-      each = λ pc x f. elim (eqb_reports pc to) [
+      each = λ pc x f. elim (eqb_tells pc to) [
         | inl w ↦
             let same : less ≡ x = let here = rw w.1 at f in let put = at_set_here None s to (Some less) within in cc in
             rw (← same) (omega (arith, as_many, was, kept, h.each to there e, length-set s to (Some less)))

@@ -1,6 +1,6 @@
 -- Meeting a flow into the state at a place, and meeting several one after the other.
 use Rattle.std.proofs.Common.{◌≡◌, ℕ, ◌<◌, List, [], ◌∷◌, ◌++◌, length, Some, None, slice_set, slice_index_or, inl, inr, refl, sym, ◌∙◌, ap, arith}
-use Rattle.std.proofs.lemmas.Bool.Decides.{eqb_reports}
+use Rattle.std.proofs.lemmas.Bool.Decides.{eqb_tells}
 use Rattle.std.proofs.lemmas.List.{length-set}
 use Rattle.std.proofs.lemmas.List.Sums.{sum_by-set}
 use Rattle.aom_image.specs.Image.{Image}
@@ -35,7 +35,7 @@ put_here s to m h = at_set_here None s to (Some m) h
 
 put_below : (s : Shapes) (to : ℕ) (sh m : AbstractState) → IsPut s to sh m → IsBelow (slice_set s to (Some m)) s
 put_below s to sh m h = record {
-  each = λ pc x e. elim (eqb_reports pc to) [
+  each = λ pc x e. elim (eqb_tells pc to) [
     | inl w ↦ record { next = m; there = rw w.1 (put_here s to m h.within); implied = h.old x (rw w.1 at e) }
     | inr w ↦ record { next = x; there = at_set_other None s to pc (Some m) w.1 ∙ e; implied = reflexive x }
   ];
@@ -50,7 +50,7 @@ below_at t s to sh meets below there e =
 
 put_strongest : (t s : Shapes) (to : ℕ) (sh m : AbstractState) → IsPut s to sh m → IsBelow t s → Meets t to sh → IsBelow t (slice_set s to (Some m))
 put_strongest t s to sh m h below meets = record {
-  each = λ pc x e. elim (eqb_reports pc to) [
+  each = λ pc x e. elim (eqb_tells pc to) [
     | inl w ↦
         let here = put_here s to m h.within in
         let same : m ≡ x = let f = rw w.1 at e in cc in
@@ -63,7 +63,7 @@ put_strongest t s to sh m h below meets = record {
 
 put_arrives : (s : Shapes) (to : ℕ) (sh m : AbstractState) → IsPut s to sh m → (p : Image) (k : ℕ) → AllArrive p k s → Arrives p k to sh →
     AllArrive p k (slice_set s to (Some m))
-put_arrives s to sh m h p k all here = λ pc x e. elim (eqb_reports pc to) [
+put_arrives s to sh m h p k all here = λ pc x e. elim (eqb_tells pc to) [
   | inl w ↦
       let there = put_here s to m h.within in
       let same : m ≡ x = let f = rw w.1 at e in cc in

@@ -2,7 +2,7 @@
 use Rattle.std.proofs.Common.{◌≡◌, ℕ, zero, suc, ◌<◌, List, [], ◌∷◌, length, Option, Some, None, replicate}
 use Rattle.std.proofs.Common.{slice_set, slice_index_or, inl, inr, refl, sym, ◌∙◌, ap, arith}
 use Rattle.std.specs.Prelude.{IfSome}
-use Rattle.std.proofs.lemmas.Bool.Decides.{eqb_reports}
+use Rattle.std.proofs.lemmas.Bool.Decides.{eqb_tells}
 use Rattle.std.proofs.lemmas.List.{length-replicate}
 use Rattle.aom_abstract_state.specs.Changes.{kept_shape}
 use Rattle.aom_abstract_state.specs.Meet.{NoMeet, ReasonNoMeet}
@@ -79,7 +79,7 @@ kept_extended old new kept h k = record {
 
 stands_set : (nodes : List Node) (kept : List (Option Kept)) (to : ℕ) (new : Kept) → to < length kept → ((pc : ℕ) (k : Kept) → at None kept pc ≡ Some k →
     Stands nodes k.entry_stack) → Stands nodes new.entry_stack → (pc : ℕ) (k : Kept) → at None (slice_set kept to (Some new)) pc ≡ Some k → Stands nodes k.entry_stack
-stands_set nodes kept to new within stand here pc k e = elim (eqb_reports pc to) [
+stands_set nodes kept to new within stand here pc k e = elim (eqb_tells pc to) [
   | inl w ↦
       let put = at_set_here None kept to (Some new) within in
       let same : new ≡ k = let f = rw w.1 at e in cc in

@@ -1,6 +1,6 @@
 -- Visits add up to a sweep, and sweeps to the states that they find.
 use Rattle.std.proofs.Common.{◌≡◌, ℕ, ◌<◌, ◌+◌, false, length, Option, Some, None, replicate, slice_set, inl, inr, refl, ◌∙◌, arith}
-use Rattle.std.proofs.lemmas.Bool.Decides.{eqb_reports, leb_reports}
+use Rattle.std.proofs.lemmas.Bool.Decides.{eqb_tells, leb_tells}
 use Rattle.std.proofs.lemmas.List.{length-set, length-replicate}
 use Rattle.aom_image.specs.Image.{Image}
 use Rattle.aom_abstract_state.specs.Order.{IsImpliedBy}
@@ -51,7 +51,7 @@ sweeps_more p m a b c count x y h k = record {
   keeps = keeps_along p m a b c h.keeps k.keeps;
   changed = changes_add a b c x.change y.change h.changed k.changed;
   nothing = then_nothing x y h.nothing k.ahead.nothing;
-  applies = λ behind pc below. elim (eqb_reports pc count) [
+  applies = λ behind pc below. elim (eqb_tells pc count) [
     | inl w ↦ rw w.1 (k.applies (then_last x y behind))
     | inr w ↦
         let low : pc < count = omega (arith, w.1, below) in
@@ -72,7 +72,7 @@ entry_stands places entry h = at_set_here None (replicate places None) 0 (Some e
 pub typing_below_first : (p : Image) (m : ℕ) (t : Shapes) (places : ℕ) (entry : AbstractState) → 0 < places → IsImpliedBy (entry_shape p m) entry → IsMethodTyped p m t →
     IsBelow t (first_shapes places entry)
 typing_below_first p m t places entry some no_less typed = record {
-  each = λ pc sh e. elim (eqb_reports pc 0) [
+  each = λ pc sh e. elim (eqb_tells pc 0) [
     | inl w ↦
         let same : entry ≡ sh = let f = rw w.1 at e in let g = entry_stands places entry some in cc in
         rw (w.1, ← same) (meets_more t 0 (entry_shape p m) entry typed.entry no_less)
@@ -86,7 +86,7 @@ typing_below_first p m t places entry some no_less typed = record {
 -- the state before the first sweep is what is known as the method begins
 pub first_arrives : (p : Image) (m : ℕ) (places : ℕ) (entry : AbstractState) → 0 < places → IsImpliedBy entry (entry_shape p m) → IsImpliedBy (entry_shape p m) entry →
     AllArrive p m (first_shapes places entry)
-first_arrives p m places entry some implied no_less = λ pc sh e. elim (eqb_reports pc 0) [
+first_arrives p m places entry some implied no_less = λ pc sh e. elim (eqb_tells pc 0) [
   | inl w ↦
       let same : entry ≡ sh = let f = rw w.1 at e in let g = entry_stands places entry some in cc in
       rw (w.1, ← same) (begins implied no_less)
@@ -101,7 +101,7 @@ pub settled : (p : Image) (m : ℕ) (places : ℕ) (entry : AbstractState) (s : 
     0 < places → IsImpliedBy entry (entry_shape p m) → IsImpliedBy (entry_shape p m) entry → Settles p m (first_shapes places entry) s → IsMethodStrongest p m s
 settled p m places entry s some implied no_less h = record {
   typed = record {
-    each = λ pc sh e. elim (leb_reports (length s) pc) [
+    each = λ pc sh e. elim (leb_tells (length s) pc) [
       | inl w ↦ let past = at_past None s pc w.1 in absurd cc
       | inr w ↦ h.applies pc (omega (arith, w.1)) sh e
     ];

@@ -1,7 +1,7 @@
 -- Which places are to be worked: where the state of a place has not changed since it was worked, the rule still applies there.
 use Rattle.std.proofs.Common.{◌≡◌, ◌≢◌, ◌⊎◌, ℕ, zero, suc, ◌<◌, ◌≤◌, Bool, true, false, List, length, None, replicate, slice_set, inl, inr, refl, sym, ◌∙◌, ap, slice_index_or}
 use Rattle.std.proofs.lemmas.Bool.{false≢true}
-use Rattle.std.proofs.lemmas.Bool.Decides.{eqb_reports}
+use Rattle.std.proofs.lemmas.Bool.Decides.{eqb_tells}
 use Rattle.aom_image.specs.Image.{Image}
 use Rattle.aom_roles.specs.Tables.{at}
 use Rattle.aom_verify.proofs.AbstractStateLemmas.{at_past, at_set_here, at_set_other, at_within}
@@ -16,7 +16,7 @@ use Rattle.aom_verify.proofs.Ordering.{below_self}
 -- ---- flags
 
 pub put_stale : (s : List Bool) (to : ℕ) → to < length s → (pc : ℕ) → at true (slice_set s to true) pc ≡ false → (at true s pc ≡ false) × (pc ≢ to)
-put_stale s to within pc f = elim (eqb_reports pc to) [
+put_stale s to within pc f = elim (eqb_tells pc to) [
   | inl w ↦ absurd (false≢true (sym (rw w.1 at f) ∙ at_set_here true s to true within))
   | inr w ↦ (sym (at_set_other true s to pc true w.1) ∙ f, w.1)
 ]
@@ -72,7 +72,7 @@ pub worked_more : (p : Image) (m : ℕ) (old new : Shapes) (before taken after :
 worked_more p m old new before taken after place worked others marks below here = record {
   each = λ pc f.
       let marked = marks.each pc f in
-      elim (eqb_reports pc place) [
+      elim (eqb_tells pc place) [
         | inl w ↦ rw w.1 (here (rw w.1 at marked.1))
         | inr w ↦ applies_still p m old new pc marked.1 below (worked.each pc (others pc w.1 marked.0))
       ];
@@ -91,7 +91,7 @@ passed_over p m s before place is_stale worked was not_stale = record {
 pub worked_before : (p : Image) (m : ℕ) (s : Shapes) (before after : List Bool) (place : ℕ) (is_stale : Bool) → AreWorked p m s before →
     is_stale ≡ at true before place → is_stale ≡ false → ((pc : ℕ) → pc ≢ place → at true after pc ≡ false → at true before pc ≡ false) → AreWorked p m s after
 worked_before p m s before after place is_stale worked was not_stale others = record {
-  each = λ pc f. elim (eqb_reports pc place) [
+  each = λ pc f. elim (eqb_tells pc place) [
     | inl w ↦ worked.each pc (rw w.1 (sym was ∙ not_stale))
     | inr w ↦ worked.each pc (others pc w.1 f)
   ];
