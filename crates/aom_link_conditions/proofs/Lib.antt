@@ -2,15 +2,18 @@ mod Beginning
 mod Bodies
 mod Each
 mod Facts
+mod Finding
 mod Keeping
 mod Leading
 mod LoopPlaces
 mod Mentioning
 mod Nested
 mod Nesting
+mod Once
 mod Ordering
 mod Places
 mod Playing
+mod Putting
 mod Views
 pub mod LinkConditionsLemmas
 pub use Rattle.aom_image.proofs.ImageLemmas

@@ -1,9 +1,11 @@
 -- The least numbers that a method may have, as loops and tables come to them.
 use Rattle.std.proofs.lemmas.Bool.Decides.{nat_tests}
 use Rattle.std.proofs.Common.{◌≡◌, ◌<◌, ◌≤◌, ◌+◌, ◌++◌, ◌∷◌, ◌==◌, ◌∙◌, ◌⊎◌, ◌↔◌, ℕ, suc, Bool, true, false, IsTrue, List, [], length, Option, Some, None}
-use Rattle.std.proofs.Common.{IfSome, slice_get, slice_index_or, max, position, leb, inl, inr, ap, sym, subst, refl, arith}
+use Rattle.std.specs.Prelude.{replicate}
+use Rattle.std.proofs.Common.{cond, IfSome, slice_get, slice_index_or, max, position, leb, inl, inr, ap, sym, subst, refl, arith}
 use Rattle.std.proofs.lemmas.Bool.{eqb-true, false≢true, le-leb, leb-true}
-use Rattle.std.proofs.lemmas.Option.{get_or_from_slice_get, slice_get-get_or, slice_get_read, slice_get_within}
+use Rattle.std.proofs.lemmas.List.{get_or-replicate, length-replicate}
+use Rattle.std.proofs.lemmas.Option.{get_or_from_slice_get, same_Some, slice_get-get_or, slice_get_read, slice_get_within}
 use Rattle.std.proofs.lemmas.List.Sums.{fails_before_first}
 use Rattle.aom_image.specs.Image.{Image}
 use Rattle.aom_image.specs.declared.method.Role.{Role}
@@ -16,6 +18,12 @@ use Rattle.aom_link_conditions.specs.Roles.{keeper_of, own_role, fills_role}
 use Rattle.aom_link_conditions.proofs.Each.{EachBelow, each_all, each_more, each_push}
 use Rattle.aom_link_conditions.proofs.Keeping.{child_there, keeper_own}
 use Rattle.aom_link_conditions.proofs.Playing.{found}
+
+-- what is read from a list of one number
+pub read_alike : (count x k n : ℕ) → slice_get (replicate count x) k ≡ Some n → n ≡ x
+read_alike count x k n at =
+    let within = slice_get_within (replicate count x) k n at in
+    sym (get_or_from_slice_get (replicate count x) k n n at) ∙ get_or-replicate count k x n (rw (length-replicate {A = ℕ} count x) at within)
 
 -- ---- one number
 
@@ -49,6 +57,34 @@ module _ {X : Type 0} (test : X → Bool) (xs : List X) where
 
   pub least_all : (n i : ℕ) → IsLeast n (λ m. EachBelow (Below m) xs i) → length xs ≤ i → IsLeast n (λ m. (k : ℕ) → IfSome (slice_get xs k) (Below m k))
   least_all n i h past m = (λ le. each_all (Below m) xs i past ((h m).0 le), λ all. (h m).1 (λ k lt. all k))
+
+  -- and in a table, where each method is put at what passes
+  pub least_alike : (count k n : ℕ) → slice_get (replicate count 0) k ≡ Some n → IsLeast n (λ m. EachBelow (Below m) xs 0)
+  least_alike count k n at = subst (λ j. IsLeast j (λ m. EachBelow (Below m) xs 0)) (sym (read_alike count 0 k n at)) least_none
+
+  pub least_put : (i : ℕ) (x : X) (old new : List ℕ) (k n : ℕ) → length old ≡ 1024 → length new ≡ 1024 →
+      ((y : ℕ) → slice_get old k ≡ Some y → IsLeast y (λ m. EachBelow (Below m) xs i)) →
+      ((y : ℕ) → slice_get old k ≡ Some y → slice_get new k ≡ Some (cond (test x) (i + 1) y)) → i < length xs → x ≡ slice_index_or xs i x →
+      slice_get new k ≡ Some n → IsLeast n (λ m. EachBelow (Below m) xs (i + 1))
+  least_put i x old new k n few same before after lt is at = go (test x) refl (same_Some n _ (sym at ∙ after _ there))
+    where
+      y : ℕ
+      y = slice_index_or old k 0
+
+      there : slice_get old k ≡ Some y
+      there = slice_get-get_or old k 0 (let within = slice_get_within new k n at in omega (arith, within, few, same))
+
+      go : (b : Bool) → test x ≡ b → n ≡ cond b (i + 1) y → IsLeast n (λ m. EachBelow (Below m) xs (i + 1))
+      go true passes e = subst (λ j. IsLeast j (λ m. EachBelow (Below m) xs (i + 1))) (sym e) (least_yes i x lt is passes)
+      go false fails e = subst (λ j. IsLeast j (λ m. EachBelow (Below m) xs (i + 1))) (sym e) (least_no y i x (before y there) lt is fails)
+
+  pub least_each : (i : ℕ) (table : List ℕ) (k : ℕ) → ((n : ℕ) → slice_get table k ≡ Some n → IsLeast n (λ m. EachBelow (Below m) xs i)) →
+      length xs ≤ i → IfSome (slice_get table k) (λ n. IsLeast n (λ m. (j : ℕ) → IfSome (slice_get xs j) (Below m j)))
+  least_each i table k h past = go (slice_get table k) refl
+    where
+      go : (o : Option ℕ) → slice_get table k ≡ o → IfSome o (λ n. IsLeast n (λ m. (j : ℕ) → IfSome (slice_get xs j) (Below m j)))
+      go None e = tt
+      go (Some n) e = least_all n i (h n e) past
 
 -- ---- tables
 

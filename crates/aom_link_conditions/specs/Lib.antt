@@ -1,5 +1,6 @@
 pub mod Bodies
 pub mod Calls
+pub mod Chains
 pub mod Families
 pub mod Faults
 pub mod Jumps

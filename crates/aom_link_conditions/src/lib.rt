@@ -6,6 +6,7 @@
 #![tactic(auto)]
 
 mod call_order;
+mod chains;
 mod conditions;
 mod families;
 mod fault;
@@ -17,9 +18,11 @@ mod overriding;
 mod place;
 mod roles;
 mod same;
+mod singles;
 
+pub use chains::{NO_METHOD, overriders_of_class};
 pub use conditions::check_conditions;
 pub use fault::LinkFault;
-pub use overriding::{leads_to, overridden_method};
+pub use overriding::overridden_method;
 pub use place::{LinkPlace, link_place};
-pub use roles::find_role;
+pub use roles::{find_role, is_class, is_inherited, own_role};

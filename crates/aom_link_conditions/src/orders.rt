@@ -4,18 +4,15 @@ ghost use Rattle.aom_image.specs.Image.{Image as ImageRecord};
 ghost use Rattle.aom_link_conditions.specs.Calls.{AllBelow, CancelsBelow, EndsBelow, GoesBelow, Mentions, MayCancel, OverridersBelow};
 ghost use Rattle.aom_link_conditions.specs.Orders.{AreLeast, IsLeast, IsOrders, ReachesAll};
 
+use crate::chains::{ByMethod, all_alike, put_overridden};
 use crate::needs::class_number;
-use crate::overriding::leads_to;
-use crate::roles::{fills_role, number_at};
+use crate::roles::fills_role;
 use aom_image::{ClassNumber, Image, Method, MethodNumber, Role};
 use aom_roles::{descends, parent_of, sessions_at};
 use arrayvec::ArrayVec;
 
 /// A number for each class.
 type ByClass = ArrayVec<usize, 256>;
-
-/// A number for each method.
-type ByMethod = ArrayVec<usize, 1024>;
 
 /// The least number of a method that mentions each class, that cancels in it, and that calls each method, made once for
 /// all that ask.
@@ -33,20 +30,6 @@ fn above_role(methods: &[Method], class: ClassNumber, role: Role) -> usize
     let mut above = 0;
     for (number, method) in methods.iter().enumerate() {
         if fills_role(class, role, method) {
-            above = number + 1;
-        }
-    }
-    above
-}
-
-/// The least number above all methods that override that one.
-fn above_overriders(image: &Image, called: MethodNumber) -> usize
-    ensures { IsLeast result (λ m. OverridersBelow image.now m called) }
-{
-    let methods = image.methods();
-    let mut above = 0;
-    for (number, method) in methods.as_slice().iter().enumerate() {
-        if leads_to(image, method.over, called) {
             above = number + 1;
         }
     }
@@ -156,12 +139,14 @@ fn greatest_each(image: &Image, table: &[usize]) -> ByClass
     most
 }
 
+/// Above all methods that override each method.
 fn above_overriders_each(image: &Image) -> ByMethod
     ensures { AreLeast 1024 result.items (λ k m. OverridersBelow image.now m k) }
 {
-    let mut calls = ByMethod::new();
-    for called in 0..1024 {
-        calls.push(above_overriders(image, number_at(called)));
+    let mut calls = all_alike(0);
+    let methods = image.methods();
+    for (number, method) in methods.as_slice().iter().enumerate() {
+        put_overridden(image, &mut calls, method.over, number + 1);
     }
     calls
 }

@@ -6,6 +6,7 @@ ghost use Rattle.aom_roles.specs.Firsts.{FirstOf};
 
 use crate::roles::{is_class, number_at};
 use crate::same::{same_argument, same_gives};
+use crate::singles::first_twice;
 use aom_image::{Argument, ClassNumber, Image, Method, MethodNumber, Role};
 use aom_roles::{descends, is_quiet, may_leave, same_role};
 use bitflags::Flags;
@@ -190,19 +191,6 @@ fn first_other(image: &Image, methods: &[Method], named: MethodNumber) -> Option
     None
 }
 
-/// A method that overrides one that another method of its class overrides before it.
-fn other_overrider(image: &Image) -> Option<usize>
-    ensures { OtherOverrider image.now result }
-{
-    let methods = image.methods().as_slice();
-    for (named, _method) in methods.iter().enumerate() {
-        if let Some(index) = first_other(image, methods, number_at(named)) {
-            return Some(index);
-        }
-    }
-    None
-}
-
 /// Whether no method overrides another.
 fn overrides_nothing(image: &Image) -> bool
     ensures { IsTrue result ↔ OverridesNothing image.now }
@@ -214,14 +202,20 @@ fn overrides_nothing(image: &Image) -> bool
         .all(|method| method.over.is_none())
 }
 
-/// A method that overrides one that another method of its class overrides. Where none overrides nothing more is looked at.
+/// The first method that overrides the first that is overridden twice in a class, where another of its class does before it.
+/// Where none overrides nothing more is looked at.
 pub fn second_overrider(image: &Image) -> Option<usize>
     ensures { OtherOverrider image.now result }
 {
     if overrides_nothing(image) {
         return None;
     }
-    other_overrider(image)
+    let methods = image.methods().as_slice();
+    let named = first_twice(image);
+    if named == methods.len() {
+        return None;
+    }
+    first_other(image, methods, number_at(named))
 }
 
 fn overriders_are_single(image: &Image) -> bool

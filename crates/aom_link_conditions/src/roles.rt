@@ -88,7 +88,8 @@ fn kept_role(image: &Image, class: ClassNumber, role: Role) -> Option<MethodNumb
     found
 }
 
-fn is_inherited(role: Role) -> bool
+/// Whether a class without a method of that role has its parent's.
+pub fn is_inherited(role: Role) -> bool
     ensures { result ≡ is_inherited role }
 {
     match role {

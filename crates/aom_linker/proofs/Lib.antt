@@ -1,10 +1,8 @@
-mod Flags
-mod Kept
 mod Nearest
-mod Noted
 mod Past
 mod Refusing
 mod Rows
+mod Standing
 mod Unoverridden
 pub mod LinkerLemmas
 pub use Rattle.aom_link_conditions.proofs.LinkConditionsLemmas

@@ -1,24 +1,16 @@
--- A method that nothing overrides is run by each call of it.
-use Rattle.std.proofs.Common.{Bool, List, Option, Some, None, [], ap, ap₂, arith, cond, false, length, refl, true, suc, zero, ℕ, ◌∷◌, ◌&&◌, ◌||◌}
-use Rattle.std.proofs.Common.{◌∙◌, ◌≡◌, ◌≢◌}
+-- A class without overriders of its own.
+use Rattle.std.proofs.Common.{Bool, List, Option, Some, None, [], ap, arith, cond, false, is_some, length, refl, true, ℕ, ◌∷◌, ◌&&◌, ◌∙◌, ◌≡◌}
 use Rattle.std.specs.Prelude.{nat_lt, position, slice_index_or, slice_get}
-use Rattle.std.proofs.lemmas.Bool.{le-ltb, ne_eqb}
+use Rattle.std.proofs.lemmas.Bool.{le-ltb}
 use Rattle.std.proofs.lemmas.List.Sums.{position_or_len_is}
 use Rattle.std.proofs.lemmas.Option.{slice_get-get_or}
 use Rattle.aom_image.specs.Image.{Image}
-use Rattle.aom_image.specs.Views.{method_at}
-use Rattle.aom_roles.specs.Families.{parent_of}
-use Rattle.aom_link_conditions.specs.Roles.{is_class, or_else}
-use Rattle.aom_link_conditions.specs.Overriding.{body_by, body_of, found_in, leads_in, leads_to, over_in, overridden_method, overrider_of, replaces}
-
--- nothing leads to it
-leads_nowhere : (p : Image) (m : ℕ) → ((k : ℕ) → overridden_method p k ≢ Some m) → (n : ℕ) (o : Option ℕ) → o ≢ Some m → leads_in p n o m ≡ false
-unfolding leads_in
-leads_nowhere p m none zero None other = refl
-leads_nowhere p m none (suc n) None other = refl
-leads_nowhere p m none zero (Some x) other = ne_eqb x m (λ same. other (ap (λ i. Some i) same))
-leads_nowhere p m none (suc n) (Some x) other =
-    ap₂ (λ a b. a || b) (ne_eqb x m (λ same. other (ap (λ i. Some i) same))) (leads_nowhere p m none n (overridden_method p x) (none x))
+use Rattle.aom_image.specs.declared.method.Method.{Method}
+use Rattle.aom_link_conditions.specs.Roles.{is_class}
+use Rattle.aom_link_conditions.specs.Overriding.{body_by, body_of, leads_to, overrider_of, replaces}
+use Rattle.aom_linker.specs.Bodies.{OverridesNothingIn, body_above, overrides_in}
+use Rattle.aom_linker.proofs.LinkConditionsLemmas.{all_there, none_leads}
+use Rattle.aom_linker.proofs.Nearest.{by_parent}
 
 -- the test that a search makes fails each time, so nothing is found
 pub none_passes : {X : Type 0} (test : X → Bool) (xs : List X) → ((k : ℕ) (x : X) → slice_get xs k ≡ Some x → test x ≡ false) → position test xs ≡ None
@@ -33,18 +25,17 @@ and_false : (a : Bool) → (a && false) ≡ false
 and_false true = refl
 and_false false = refl
 
-own_of_none : (p : Image) (m : ℕ) → ((k : ℕ) → overridden_method p k ≢ Some m) → (c : ℕ) → overrider_of p c m ≡ None
-unfolding overrider_of replaces over_in method_at
-own_of_none p m none c = none_passes (λ d. is_class c d.class && leads_to p d.over m) p.methods (λ k d at. ap (λ b. is_class c d.class && b)
-    (leads_nowhere p m none (length p.methods) d.over (λ same. none k (ap over_in at ∙ same))) ∙ and_false (is_class c d.class))
+-- a class none of whose methods overrides has nothing in the place of any method
+pub no_overrider : (p : Image) (c m : ℕ) → OverridesNothingIn p c → overrider_of p c m ≡ None
+unfolding overrider_of replaces
+no_overrider p c m none = none_passes (replaces p c m) p.methods (λ k d at. go (is_class c d.class) d.over
+    (all_there (λ (e : Method). overrides_in c e ≡ false) p.methods k d none at))
+  where
+    go : (b : Bool) (o : Option ℕ) → (b && is_some o) ≡ false → (b && leads_to p o m) ≡ false
+    go false o h = refl
+    go true None h = none_leads p (length p.methods) m
+    go true (Some k) h = absurd (cc)
 
-found_nowhere : (p : Image) (m : ℕ) → ((k : ℕ) → overridden_method p k ≢ Some m) → (n : ℕ) (o : Option ℕ) → found_in p n o m ≡ None
-unfolding found_in
-found_nowhere p m none zero None = refl
-found_nowhere p m none (suc n) None = refl
-found_nowhere p m none zero (Some c) = own_of_none p m none c
-found_nowhere p m none (suc n) (Some c) = ap₂ (λ a b. or_else a b) (own_of_none p m none c) (found_nowhere p m none n (parent_of p c))
-
-pub runs_itself : (p : Image) (m : ℕ) → ((k : ℕ) → overridden_method p k ≢ Some m) → (c : ℕ) → body_of p m (Some c) ≡ m
-unfolding body_of
-runs_itself p m none c = ap (body_by m) (found_nowhere p m none c (Some c))
+-- where it has nothing itself, and a call on an object of its parent runs the method named, so does one on its own
+pub bare : (p : Image) (c m : ℕ) → overrider_of p c m ≡ None → body_above p m c ≡ m → body_of p m (Some c) ≡ m
+bare p c m none above = by_parent p m c ∙ ap (body_by (body_above p m c)) none ∙ above

@@ -1,34 +1,39 @@
 -- What calls run, in tables.
-use Rattle.std.specs.Prelude.{◌≡◌, ◌≤◌, ℕ, Bool, true, List, length, slice_get, Option, Some, None, IfSome}
+use Rattle.std.specs.Prelude.{◌≡◌, ◌≤◌, ◌&&◌, ℕ, All, Bool, false, is_some, List, length, slice_get, Option, Some, None, IfSome}
 use Rattle.aom_image.specs.Image.{Image}
+use Rattle.aom_image.specs.declared.method.Method.{Method}
 use Rattle.aom_roles.specs.Families.{parent_of}
-use Rattle.aom_link_conditions.specs.Overriding.{body_of, overridden_method, overrider_of}
-
--- what each class has itself in the place of a method
-pub record AreOwn (p : Image) (m : ℕ) (own : List (Option ℕ)) : Type 0 where
-  pub size : length own ≡ length p.classes
-  pub each : (c : ℕ) (o : Option ℕ) → slice_get own c ≡ Some o → o ≡ overrider_of p c m
+use Rattle.aom_link_conditions.specs.Overriding.{body_of}
+use Rattle.aom_link_conditions.specs.Roles.{is_class}
 
 -- what a call of m runs on an object of the parent of a class, and m itself where there is none
 abbrev pub body_above : Image → ℕ → ℕ → ℕ
 body_above p m c = body_of p m (parent_of p c)
 
--- what a call of m runs on an object of each class
-pub record IsRow (p : Image) (m : ℕ) (row : List ℕ) : Type 0 where
-  pub size : length row ≡ length p.classes
-  pub each : (c : ℕ) → IfSome (slice_get row c) (λ k. k ≡ body_of p m (Some c))
+-- a method is of that class and overrides another
+abbrev pub overrides_in : ℕ → Method → Bool
+overrides_in c d = is_class c d.class && is_some d.over
 
--- a row; or there is none, and a call runs the method named
+-- no method of that class overrides another
+abbrev pub OverridesNothingIn : Image → ℕ → Type 0
+OverridesNothingIn p c = All (λ d. overrides_in c d ≡ false) p.methods
+
+-- for each method a number
+pub record IsEach (p : Image) (f : ℕ → ℕ) (row : List ℕ) : Type 0 where
+  pub size : length row ≡ length p.methods
+  pub each : (m : ℕ) → IfSome (slice_get row m) (λ k. k ≡ f m)
+
+-- what a call of each method runs on an object of a class
+abbrev pub IsRow : Image → ℕ → List ℕ → Type 0
+IsRow p c row = IsEach p (λ m. body_of p m (Some c)) row
+
+-- a row; or there is none, and each call runs the method named
 abbrev pub IsRowOf : Image → ℕ → Option (List ℕ) → Type 0
-IsRowOf p m None = (c : ℕ) → body_of p m (Some c) ≡ m
-IsRowOf p m (Some row) = IsRow p m row
+IsRowOf p c None = (m : ℕ) → body_of p m (Some c) ≡ m
+IsRowOf p c (Some row) = IsRow p c row
 
--- each method that another overrides is flagged
-abbrev pub AreOverridden : Image → List Bool → Type 0
-AreOverridden p flags = (k m : ℕ) → overridden_method p k ≡ Some m → (b : Bool) → slice_get flags m ≡ Some b → b ≡ true
-
--- what a call of each method runs; on a class that is not there it runs the method named
+-- what a call of each method runs, by classes; on a class that is not there it runs the method named
 pub record AreBodies (p : Image) (rows : List (Option (List ℕ))) : Type 0 where
-  pub size : length rows ≡ length p.methods
-  pub each : (m : ℕ) → IfSome (slice_get rows m) (IsRowOf p m)
+  pub size : length rows ≡ length p.classes
+  pub each : (c : ℕ) → IfSome (slice_get rows c) (IsRowOf p c)
   pub others : (m c : ℕ) → length p.classes ≤ c → body_of p m (Some c) ≡ m

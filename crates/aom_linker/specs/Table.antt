@@ -4,6 +4,11 @@ use Rattle.aom_image.specs.Image.{Image}
 use Rattle.aom_image.specs.declared.method.Role.{Role}
 use Rattle.aom_link_conditions.specs.Roles.{role_number, role_of}
 
+-- the method of a role of a class, if there is one
+abbrev pub role_from : Image → Role → Option ℕ → Option ℕ
+role_from p r None = None
+role_from p r (Some c) = role_of p c r
+
 -- a row has the method of each role of a class
 abbrev pub IsRow : Image → ℕ → List (Option ℕ) → Type 0
 IsRow p c row = (r : Role) → slice_get row (role_number r) ≡ Some (role_of p c r)

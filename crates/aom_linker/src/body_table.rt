@@ -1,74 +1,68 @@
 //! The table of bodies.
-ghost use Rattle.std.specs.Prelude.{ℕ, ◌≡◌, Bool, IfOk, IsSome, None, Some, false, true, length, slice_get};
+ghost use Rattle.std.specs.Prelude.{ℕ, ◌≡◌, ◌↔◌, IfOk, IfSome, IsSome, IsTrue, Some, false, length, slice_get};
 ghost use Rattle.aom_image.specs.Image.{Image as ImageRecord};
 ghost use Rattle.aom_image.specs.Views.{method_at};
 ghost use Rattle.aom_link_conditions.specs.Overriding.{body_of};
-ghost use Rattle.aom_linker.specs.Bodies.{AreBodies, AreOverridden, IsRowOf};
+ghost use Rattle.aom_linker.specs.Bodies.{AreBodies, IsRowOf, OverridesNothingIn, body_above, overrides_in};
 
-use crate::numbers::method_number;
-use crate::row::BodyRow;
+use crate::numbers::class_number;
+use crate::row::{BodyRow, body_in};
 use aom_image::{ClassNumber, Image, Method, MethodNumber};
+use aom_link_conditions::is_class;
+use aom_roles::parent_of;
 use std::alloc::{AllocError, Global};
 
-/// For each method that others override, what a call of it runs on an object of each class.
+/// For each class that has an overrider, itself or from above, what a call of each method runs on its objects.
 #[derive(Drop)]
 pub struct BodyTable {
     pub rows: Vec<Option<BodyRow>>,
 }
 
-/// Which methods others override.
-fn overridden(alloc: Global, image: &Image) -> Result<Vec<bool>, AllocError>
-    ensures size { IfOk result (λ flags. length flags.items ≡ length image.now.methods) }
-    ensures each { IfOk result (λ flags. AreOverridden image.now flags.items) }
+/// Whether a method is of that class and overrides another.
+fn overrides_in(class: ClassNumber, method: &Method) -> bool
+    ensures { result ≡ overrides_in class method.now }
+{
+    is_class(class, method.class) && method.over.is_some()
+}
+
+/// Whether no method of a class overrides another.
+fn overrides_nothing_in(image: &Image, class: ClassNumber) -> bool
+    ensures { IsTrue result ↔ OverridesNothingIn image.now class }
 {
     let methods = image.methods();
-    let mut flags = Vec::with_capacity(alloc, methods.len())?;
-    for _ in 0..methods.len() {
-        flags.push(false)?;
-    }
-    for method in methods.as_slice() {
-        flag_over(&mut flags, method);
-    }
-    Ok(flags)
+    methods
+        .as_slice()
+        .iter()
+        .all(|method| !overrides_in(class, method))
 }
 
-fn flag(flags: &mut Vec<bool>, method: MethodNumber)
-    ensures size { length flags.new.items ≡ length flags.old.items }
-    ensures set { (b : Bool) → slice_get flags.new.items method ≡ Some b → b ≡ true }
-    ensures others { (m : ℕ) → slice_get flags.old.items m ≡ Some true → slice_get flags.new.items m ≡ Some true }
+/// Whether calls on the objects of a class's parent run what its row says.
+fn has_row_above(image: &Image, rows: &Vec<Option<BodyRow>>, class: ClassNumber) -> bool
+    requires class { class ≡ length rows.now.items }
+    requires sofar { (c : ℕ) → IfSome (slice_get rows.now.items c) (IsRowOf image.now c) }
+    ensures { result ≡ false → (m : ℕ) → body_above image.now m class ≡ m }
 {
-    let method = method.number() as usize;
-    if method < flags.len() {
-        flags[method] = true;
+    match parent_of(image, class) {
+        Some(parent) => rows[parent.number() as usize].is_some(),
+        None => false,
     }
 }
 
-/// Flags what a method overrides.
-fn flag_over(flags: &mut Vec<bool>, method: &Method)
-    ensures size { length flags.new.items ≡ length flags.old.items }
-    ensures set { (m : ℕ) → method.now.over ≡ Some m → (b : Bool) → slice_get flags.new.items m ≡ Some b → b ≡ true }
-    ensures others { (m : ℕ) → slice_get flags.old.items m ≡ Some true → slice_get flags.new.items m ≡ Some true }
-{
-    if let Some(over) = method.over {
-        flag(flags, over);
-    }
-}
-
-/// The row of a method that others override; another has none.
+/// The row of a class that has an overrider, itself or from above; another has none.
 fn row_of(
     alloc: Global,
     image: &Image,
-    method: MethodNumber,
-    is_overridden: bool,
+    rows: &Vec<Option<BodyRow>>,
+    class: ClassNumber,
 ) -> Result<Option<BodyRow>, AllocError>
-    requires { is_overridden ≡ false → IsRowOf image.now method None }
-    ensures { IfOk result (λ row. IsRowOf image.now method row) }
+    requires class { class ≡ length rows.now.items }
+    requires sofar { (c : ℕ) → IfSome (slice_get rows.now.items c) (IsRowOf image.now c) }
+    ensures { IfOk result (λ row. IsRowOf image.now class row) }
 {
-    if is_overridden {
-        Ok(Some(BodyRow::of_method(alloc, image, method)?))
-    } else {
-        Ok(None)
+    if overrides_nothing_in(image, class) && !has_row_above(image, rows, class) {
+        return Ok(None);
     }
+    Ok(Some(BodyRow::of_class(alloc, image, rows, class)?))
 }
 
 impl BodyTable {
@@ -76,10 +70,11 @@ impl BodyTable {
     pub fn of_image(alloc: Global, image: &Image) -> Result<BodyTable, AllocError>
         ensures { IfOk result (λ t. AreBodies image.now t.rows.items) }
     {
-        let flags = overridden(alloc, image)?;
-        let mut rows = Vec::with_capacity(alloc, image.methods().len())?;
-        for (method, is_overridden) in flags.iter().enumerate() {
-            rows.push(row_of(alloc, image, method_number(method), *is_overridden)?)?;
+        let count = image.classes().len();
+        let _methods = image.methods();
+        let mut rows = Vec::with_capacity(alloc, count)?;
+        for class in 0..count {
+            rows.push(row_of(alloc, image, &rows, class_number(class))?)?;
         }
         Ok(BodyTable { rows })
     }
@@ -88,9 +83,9 @@ impl BodyTable {
     pub fn body(&self, method: MethodNumber, class: ClassNumber) -> MethodNumber
         ensures { (p : ImageRecord) → AreBodies p self.now.rows.items → IsSome (method_at p method) → result ≡ body_of p method (Some class) }
     {
-        match self.rows.get(method.number() as usize) {
-            Some(Some(row)) => row.body(class).unwrap_or(method),
-            _ => method,
+        match self.rows.get(class.number() as usize) {
+            Some(row) => body_in(row, method),
+            None => method,
         }
     }
 }

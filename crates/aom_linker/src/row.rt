@@ -1,17 +1,19 @@
-//! What a call of one method runs on an object of each class.
-ghost use Rattle.std.specs.Prelude.{ℕ, ◌≡◌, ◌+◌, ◌<◌, ◌≤◌, IfOk, IfSome, None, Option, Some, cond, length, nat_eq, replicate, slice_get};
-ghost use Rattle.aom_link_conditions.specs.Overriding.{body_of, overrider_of, replaces};
-ghost use Rattle.aom_link_conditions.specs.Roles.{or_else};
-ghost use Rattle.aom_linker.specs.Bodies.{AreOwn, IsRow, body_above};
+//! What a call of each method runs on an object of one class.
+ghost use Rattle.std.specs.Prelude.{ℕ, ◌≡◌, ◌<◌, IfOk, IfSome, IsSome, Option, Some, length, slice_get};
+ghost use Rattle.aom_image.specs.Image.{Image as ImageRecord};
+ghost use Rattle.aom_image.specs.Views.{method_at};
+ghost use Rattle.aom_link_conditions.specs.Chains.{number_or_none};
+ghost use Rattle.aom_link_conditions.specs.Overriding.{body_by, body_of};
+ghost use Rattle.aom_linker.specs.Bodies.{IsRow, IsRowOf, body_above};
 
-use crate::numbers::{class_number, method_number};
-use aom_image::{ClassNumber, Image, Method, MethodNumber};
-use aom_link_conditions::leads_to;
+use crate::numbers::method_number;
+use aom_image::{ClassNumber, Image, MethodNumber};
+use aom_link_conditions::{NO_METHOD, overriders_of_class};
 use aom_roles::parent_of;
 use std::alloc::{AllocError, Global};
 use std::marker::Model;
 
-/// For each class the method that a call of one method runs on its objects.
+/// For each method the method that a call of it runs on the objects of one class.
 #[derive(Drop)]
 pub struct BodyRow {
     bodies: Vec<MethodNumber>,
@@ -25,122 +27,74 @@ impl Model for BodyRow {
     ghost view = { λ r. r.bodies.items };
 }
 
-/// Keeps a body for a class that has none yet.
-fn keep_first(own: &mut Vec<Option<MethodNumber>>, class: ClassNumber, body: MethodNumber)
-    ensures size { length own.new.items ≡ length own.old.items }
-    ensures each { (c : ℕ) (o : Option ℕ) → slice_get own.old.items c ≡ Some o → slice_get own.new.items c ≡ Some (or_else o (cond (nat_eq class c) (Some body) None)) }
+/// What a call runs where a class has that in the place of a method, or has nothing there.
+fn body_or(own: usize, above: MethodNumber) -> MethodNumber
+    ensures { (o : Option ℕ) → own ≡ number_or_none o → IfSome o (λ k. k < 1024) → result ≡ body_by above o }
 {
-    let class = class.number() as usize;
-    if class < own.len() && own[class].is_none() {
-        own[class] = Some(body);
+    if own < NO_METHOD {
+        method_number(own)
+    } else {
+        above
     }
 }
 
-/// Notes a method in its class, where it is the first there that overrides the named one.
-fn note(
+/// What a call runs by a row, or where there is none.
+pub fn body_in(row: &Option<BodyRow>, method: MethodNumber) -> MethodNumber
+    ensures { (p : ImageRecord) (c : ℕ) → IsRowOf p c row.now → IsSome (method_at p method) → result ≡ body_of p method (Some c) }
+{
+    match row {
+        Some(row) => row.body(method),
+        None => method,
+    }
+}
+
+/// What a call runs on an object of the parent of a class.
+fn above(
     image: &Image,
-    own: &mut Vec<Option<MethodNumber>>,
-    named: MethodNumber,
-    index: usize,
-    method: &Method,
-)
-    requires { index < 1024 }
-    ensures size { length own.new.items ≡ length own.old.items }
-    ensures each { (c : ℕ) (o : Option ℕ) → slice_get own.old.items c ≡ Some o → slice_get own.new.items c ≡ Some (or_else o (cond (replaces image.now c named method.now) (Some index) None)) }
-{
-    if let Some(class) = method.class {
-        if leads_to(image, method.over, named) {
-            keep_first(own, class, method_number(index));
-        }
-    }
-}
-
-/// No class has anything in the place of a method.
-fn nothing(alloc: Global, classes: usize) -> Result<Vec<Option<MethodNumber>>, AllocError>
-    ensures { IfOk result (λ own. own.items ≡ replicate classes None) }
-{
-    let mut own = Vec::with_capacity(alloc, classes)?;
-    for _ in 0..classes {
-        own.push(None)?;
-    }
-    Ok(own)
-}
-
-/// What each class has itself in the place of a method.
-fn own_bodies(
-    alloc: Global,
-    image: &Image,
-    named: MethodNumber,
-) -> Result<Vec<Option<MethodNumber>>, AllocError>
-    ensures { IfOk result (λ own. AreOwn image.now named own.items) }
-{
-    let mut own = nothing(alloc, image.classes().len())?;
-    for (index, method) in image.methods().as_slice().iter().enumerate() {
-        note(image, &mut own, named, index, method);
-    }
-    Ok(own)
-}
-
-/// What a call runs on an object of a class that has nothing of its own there: what it runs on one of the class's parent.
-fn inherited(
-    image: &Image,
-    bodies: &Vec<MethodNumber>,
-    named: MethodNumber,
+    rows: &Vec<Option<BodyRow>>,
     class: ClassNumber,
+    method: MethodNumber,
 ) -> MethodNumber
-    requires class { class ≡ length bodies.now.items }
-    requires sofar { (c : ℕ) → IfSome (slice_get bodies.now.items c) (λ k. k ≡ body_of image.now named (Some c)) }
-    ensures { result ≡ body_above image.now named class }
+    requires class { class ≡ length rows.now.items }
+    requires sofar { (c : ℕ) → IfSome (slice_get rows.now.items c) (IsRowOf image.now c) }
+    requires method { IsSome (method_at image.now method) }
+    ensures { result ≡ body_above image.now method class }
 {
     match parent_of(image, class) {
-        Some(parent) => bodies[parent.number() as usize],
-        None => named,
-    }
-}
-
-/// What a call runs on an object of a class: what the class has itself in the place of the method, or what it inherits.
-fn body_for(
-    image: &Image,
-    bodies: &Vec<MethodNumber>,
-    named: MethodNumber,
-    class: ClassNumber,
-    own: Option<MethodNumber>,
-) -> MethodNumber
-    requires class { class ≡ length bodies.now.items }
-    requires sofar { (c : ℕ) → IfSome (slice_get bodies.now.items c) (λ k. k ≡ body_of image.now named (Some c)) }
-    requires own { own ≡ overrider_of image.now class named }
-    ensures { result ≡ body_of image.now named (Some class) }
-{
-    match own {
-        Some(body) => body,
-        None => inherited(image, bodies, named, class),
+        Some(parent) => body_in(&rows[parent.number() as usize], method),
+        None => method,
     }
 }
 
 impl BodyRow {
-    /// What a call of that method runs.
-    pub fn of_method(
+    /// What a call of each method runs on an object of a class, from what it runs on one of the class's parent.
+    pub fn of_class(
         alloc: Global,
         image: &Image,
-        named: MethodNumber,
+        rows: &Vec<Option<BodyRow>>,
+        class: ClassNumber,
     ) -> Result<BodyRow, AllocError>
-        ensures { IfOk result (λ row. IsRow image.now named row) }
+        requires class { class ≡ length rows.now.items }
+        requires sofar { (c : ℕ) → IfSome (slice_get rows.now.items c) (IsRowOf image.now c) }
+        ensures { IfOk result (λ row. IsRow image.now class row) }
     {
-        let own = own_bodies(alloc, image, named)?;
-        let mut bodies = Vec::with_capacity(alloc, image.classes().len())?;
-        for (class, own) in own.iter().enumerate() {
-            bodies.push(body_for(image, &bodies, named, class_number(class), *own))?;
+        let count = image.methods().len();
+        let own = overriders_of_class(image, class);
+        let mut bodies = Vec::with_capacity(alloc, count)?;
+        for method in 0..count {
+            let above = above(image, rows, class, method_number(method));
+            bodies.push(body_or(own[method], above))?;
         }
         Ok(BodyRow { bodies })
     }
 
-    /// What a call runs on an object of that class.
-    pub fn body(&self, class: ClassNumber) -> Option<MethodNumber>
-        ensures { result ≡ slice_get self.now class }
+    /// What a call of that method runs; the method itself past the last.
+    fn body(&self, method: MethodNumber) -> MethodNumber
+        ensures { (k : ℕ) → slice_get self.now method ≡ Some k → result ≡ k }
     {
-        match self.bodies.get(class.number() as usize) {
-            Some(body) => Some(*body),
-            None => None,
+        match self.bodies.get(method.number() as usize) {
+            Some(body) => *body,
+            None => method,
         }
     }
 }

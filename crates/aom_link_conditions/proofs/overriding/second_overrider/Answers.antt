@@ -1,4 +1,4 @@
--- Where none overrides none is overridden twice.
+-- Where none overrides none is overridden twice, and where each is overridden once there is no second.
 use Rattle.aom_link_conditions.proofs.Leading.{nothing_once}
 use Rattle.aom_link_conditions.proofs.overriding.second_overrider.Goals as goal
 
