@@ -13,6 +13,8 @@ from house import House, files_of, read_bytes
 
 TOP = os.path.dirname(os.path.dirname(os.path.realpath(__file__)))
 PROGRAM = "crates/aom/out/aom"
+# the same code, made without its proofs for whoever tries it before they are made
+UNPROVED = "crates/aom/out/aom-unproved"
 # a file that changes just as it is read may have a time that is older by a tick of the system's clock
 TICK = 0.1
 
