@@ -201,7 +201,7 @@ module _ (names : ℕ → ℕ) (one_to_one : IsOneToOne names) (p : Image) (c : 
   result_needs_kept _ a = refl
 
   end_kept : (below : List Task) → end_needs p fr' ts' s' (renamed_tasks names below) ≡ end_needs p fr ts s below
-  end_kept x = grind (arith, nat_tests, without_queue_renamed, past_kept, ended_kept names one_to_one, is_asked_kept names)
+  end_kept x = grind (arith, nat_tests, without_queue_renamed, past_kept, requested_kept names one_to_one s.cells, ended_kept names one_to_one, is_asked_kept names)
 
   leaves_object_kept : (x : ℕ) (items : List Item) → leaves_object p fr' ts' s' x items ≡ leaves_object p fr ts s x items
   leaves_object_kept x [] = refl

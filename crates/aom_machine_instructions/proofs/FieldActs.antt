@@ -178,7 +178,7 @@ module _ (p : Image) (m : Parts) (h : CurrentFrame p m) where
 
 pub load_does : (m new : Parts) (refused : List ℕ) (a w : ℕ) → WritesWord a (cell_word m.cells (this m) w) m new → Does refused (Load a w) m new
 load_does m new refused a w x = plain_does m new refused (Load a w) refl (λ p h c met. subst (λ v. Agrees p new
-    (applied p h.frame h.below h.state (writes_word h.frame a v))) (word_loaded p m h w met.0) (word_put p m new h a _ (free _ met.1.0) x))
+    (applied p h.frame h.below h.state (writes_word h.frame a v))) (word_loaded p m h w met.1.0) (word_put p m new h a _ (free _ met.0) x))
 
 pub store_does : (m : Parts) (refused : List ℕ) (w b : ℕ) (heap : Heap) →
     PutsWord (this m) w (cast_signed w32 (register_here m.stack.tasks b)) m.cells heap → Does refused (Store w b) m (places.next (record m { cells = heap }))
@@ -188,10 +188,10 @@ store_does m refused w b heap puts = plain_does m (places.next (record m { cells
     let ts = h.below in
     let v = read fr ts s b in
     let cs = stored s.cells fr.receiver w v in
-    let written = subst (λ v. PutsWord (this m) w v m.cells heap) (word_read p m h b met.1.0) puts in
+    let written = subst (λ v. PutsWord (this m) w v m.cells heap) (word_read p m h b met.0) puts in
     goes_on_as p m h (record m { cells = heap }) cs s.items s.rest (record {
       stack = refl;
-      cells = cells_after_store p m h heap w v met.0 written;
+      cells = cells_after_store p m h heap w v met.1.0 written;
       entries = h.agrees.entries;
       requests = requests_stored p m.active s.cells fr.receiver w v h.agrees.requests;
       natives = natives_stored p m.sessions s.killed s.cells fr.receiver w v h.agrees.natives;
@@ -229,7 +229,7 @@ pub take_does : (m mid : Parts) (refused : List ℕ) (a g n : ℕ) → a < 16 �
 take_does m mid refused a g n small reads writes = plain_does m (places.next (set_register a n mid)) refused (Take a g) refl (λ p h c met.
     let q = field_place h.frame.receiver g in
     let here = Register (length h.below) a in
-    let written = field_written_here p m h mid g null met.0 writes in
+    let written = field_written_here p m h mid g null met.1.0 writes in
     goes_by_field p m mid h g null a n (set_extending None h.frame.words a None) q here written (field_no_queue p m h h.frame.receiver g) refl (λ f ms e top.
     let wide = top.frame.wide in
     let v = value_in (Runs_frame f ∷ ms) m.cells m.entries.items (others m) in
@@ -238,8 +238,8 @@ take_does m mid refused a g n small reads writes = plain_does m (places.next (se
       values = moves v _ _ _ (held h.state.cells) _ q here top.values (no_word_there p m h h.frame.receiver g (Run h.frame ∷ h.below)) (λ r.
           value_written f ms mid.cells m.entries.items (record (others m) { root = mid.root }) (length h.below) a n f.place top.deep (omega arith) r
           ∙ ap (λ y. changed (λ z. y) here n r) (written.values (Runs_frame f ∷ ms) r)
-          ∙ ap (λ y. changed (changed v q null) here y r) (reads ∙ sym (field_read_here p m h g (Runs_frame f ∷ ms) met.0)))
-          (word_written h.frame h.below a h.frame.place None) (λ r. held_moved h.state.cells q here r (free _ met.1.0));
+          ∙ ap (λ y. changed (changed v q null) here y r) (reads ∙ sym (field_read_here p m h g (Runs_frame f ∷ ms) met.1.0)))
+          (word_written h.frame h.below a h.frame.place None) (λ r. held_moved h.state.cells q here r (free _ met.0));
     }))
 
 -- a field that a thing is declared for is declared

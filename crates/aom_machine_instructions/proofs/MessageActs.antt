@@ -76,7 +76,7 @@ module _ (m : Parts) (refused : List ℕ) where
         values = moves _ _ _ _ (held s.cells) _ from to top.values refl (λ r.
             value_written f ms m.cells m.entries.items (others mid) (length ts) a m.served f.place top.deep (omega arith) r
             ∙ ap (λ y. changed (λ q. y) to m.served r) (served_written (Runs_frame f ∷ ms) m.cells m.entries.items (others m) null r))
-            (word_written h.frame ts a h.frame.place None) (λ r. held_moved s.cells from to r (free _ met.1.1.0));
+            (word_written h.frame ts a h.frame.place None) (λ r. held_moved s.cells from to r (free _ met.0));
       }))
 
 -- ---- a message is completed

@@ -41,10 +41,10 @@ native_listed k e = active_listed k (native_active k e)
 
 module _ (p : Image) (m : Parts) where
   pub connect_lives : (a : ℕ) → IsNext p (Connect a) m → Lives m.cells (this m)
-  connect_lives a next = finds_cell p m (Connect a) next (λ c fr ts s n. native_listed _ n.0)
+  connect_lives a next = finds_cell p m (Connect a) next (λ c fr ts s n. native_listed _ n.1.0)
 
   pub ask_lives : (a b x : ℕ) → IsNext p (Ask a b x) m → Lives m.cells (this m)
-  ask_lives a b x next = finds_cell p m (Ask a b x) next (λ c fr ts s n. native_listed _ n.1.1.0)
+  ask_lives a b x next = finds_cell p m (Ask a b x) next (λ c fr ts s n. native_listed _ n.1.1.1.0)
 
   pub close_lives : IsNext p Close m → Lives m.cells (this m)
   close_lives next = finds_cell p m Close next (λ c fr ts s n. native_listed _ n.0)
@@ -103,16 +103,16 @@ module _ (p : Image) (m new : Parts) (refused : List ℕ) (n : ℕ) (serves : na
       DoesIn p refused (Connect a) m new
   unfolding DoesIn
   connect_does a w set writes h here = observed_at p m new refused (Connect a) refl h (λ c observes met typed.
-      let on = on_object p m h (native_listed _ met.0) in
+      let on = on_object p m h (native_listed _ met.1.0) in
       let flag = subst (λ b. Sets m.sessions w (this m) b) (observed_reported p m h on n serves opens c observes) set in
       let word = subst (λ v. WritesWord a v (record m { sessions = w }) new) (observed_reported p m h on n serves connected c observes) writes in
-      session_put p m h on w _ flag new a _ (free _ met.1.0) word)
+      session_put p m h on w _ flag new a _ (free _ met.0) word)
 
   pub ask_does : (a b x : ℕ) → WritesWord a (replied (is_killed m.sessions n) (is_open m.sessions (this m)) (observed_by m)) m new → DoesIn p refused (Ask a b x) m new
   unfolding DoesIn
   ask_does a b x writes h here = observed_at p m new refused (Ask a b x) refl h (λ c observes met typed.
-      let on = on_object p m h (native_listed _ met.1.1.0) in
-      word_put p m new h a _ (free _ met.1.1.1.0) (subst (λ v. WritesWord a v m new) (observed_reported p m h on n serves replied c observes) writes))
+      let on = on_object p m h (native_listed _ met.1.1.1.0) in
+      word_put p m new h a _ (free _ met.1.1.0) (subst (λ v. WritesWord a v m new) (observed_reported p m h on n serves replied c observes) writes))
 
 pub close_does : (m : Parts) (refused : List ℕ) (w : Standing) → Sets m.sessions w (this m) false → Does refused Close m (places.next (record m { sessions = w }))
 close_does m refused w set = plain_does m _ refused Close refl (λ p h c met. session_passes p m h (on_object p m h (native_listed _ met.0)) w false set)

@@ -372,7 +372,7 @@ module _ (p : Image) (m : Parts) where
   jump_added_lives to next = finds_cell p m (JumpAdded to) next (λ c fr ts s n. n.0)
 
   pub status_lives : (a : ℕ) → IsNext p (Status a) m → Lives m.cells (this m)
-  status_lives a next = finds_cell p m (Status a) next (λ c fr ts s n. active_listed (receiver_kind p fr.receiver) n.0)
+  status_lives a next = finds_cell p m (Status a) next (λ c fr ts s n. active_listed (receiver_kind p fr.receiver) n.1.0)
 
   pub issue_lives : (a b : ℕ) → IsNext p (Issue a b) m → Lives m.cells (this m)
   issue_lives a b next = finds_cell p m (Issue a b) next (λ c fr ts s n. active_listed (receiver_kind p fr.receiver) (issuing_active (receiver_kind p fr.receiver) n.1.1.0))
@@ -442,7 +442,7 @@ module _ (m : Parts) (refused : List ℕ) where
   -- the status of the last request, and 0 where there was none
   pub status_does : (new : Parts) (a : ℕ) → WritesWord a (word_or_zero (status_at m.active.table (this m))) m new → Does refused (Status a) m new
   status_does new a x = plain_does m new refused (Status a) refl (λ p h c met. subst (λ v. Agrees p new (applied p h.frame h.below h.state
-      (writes_word h.frame a v))) (status_reported p m h (on_object p m h (active_listed _ met.0)) met.0) (word_put p m new h a _ (free _ met.1.0) x))
+      (writes_word h.frame a v))) (status_reported p m h (on_object p m h (active_listed _ met.1.0)) met.1.0) (word_put p m new h a _ (free _ met.0) x))
 
 module _ (m : Parts) (refused : List ℕ) (a : Active) where
   -- the request of the object that works becomes another at the same place of the list

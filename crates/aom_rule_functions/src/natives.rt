@@ -61,7 +61,7 @@ fn needs_native_kind(site: &RuleContext<'_>) -> (bool, Reason)
 pub(crate) fn rule_connect(site: &RuleContext<'_>, a: Register) -> Ruling
     ensures { Finds site.now (rule_connect site.now.image site.now.method site.now.shape a) (Goes_on (Holding a Word)) result }
 {
-    let needs = [needs_native_kind(site), site.needs_unowning(a)];
+    let needs = [site.needs_unowning(a), needs_native_kind(site)];
     judge(&needs, with_word(site, a))
 }
 
@@ -71,8 +71,8 @@ pub(crate) fn rule_ask(site: &RuleContext<'_>, a: Register, b: Register, c: Regi
     let needs = [
         site.needs_word(b),
         site.needs_word(c),
-        needs_native_kind(site),
         site.needs_unowning(a),
+        needs_native_kind(site),
     ];
     judge(&needs, with_word(site, a))
 }

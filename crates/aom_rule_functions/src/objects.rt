@@ -70,7 +70,7 @@ pub(crate) fn rule_jump_empty(site: &RuleContext<'_>, f: FieldIndex, to: InstrPl
 pub(crate) fn rule_take(site: &RuleContext<'_>, a: Register, f: FieldIndex) -> Ruling
     ensures { Finds site.now (rule_take site.now.image site.now.method site.now.place site.now.shape a f) (Goes_on (Taken a f)) result }
 {
-    let needs = [site.needs_field(f), site.needs_unowning(a)];
+    let needs = [site.needs_unowning(a), site.needs_field(f)];
     let taken = site.shape.field(f).kind(site.declared(f));
     let next = site
         .shape

@@ -205,6 +205,6 @@ pub(crate) fn rule_abort(site: &RuleContext<'_>) -> Ruling
 pub(crate) fn rule_status(site: &RuleContext<'_>, a: Register) -> Ruling
     ensures { Finds site.now (rule_status site.now.image site.now.method site.now.shape a) (Goes_on (Holding a Word)) result }
 {
-    let needs = [needs_active_kind(site), site.needs_unowning(a)];
+    let needs = [site.needs_unowning(a), needs_active_kind(site)];
     judge(&needs, with_word(site, a))
 }

@@ -85,14 +85,14 @@ pub(crate) fn rule_print(site: &RuleContext<'_>, a: Register) -> Ruling
 pub(crate) fn rule_load(site: &RuleContext<'_>, a: Register, w: WordIndex) -> Ruling
     ensures { Finds site.now (rule_load site.now.image site.now.method site.now.shape a w) (Goes_on (Holding a Word)) result }
 {
-    let needs = [site.needs_word_of_object(w), site.needs_unowning(a)];
+    let needs = [site.needs_unowning(a), site.needs_word_of_object(w)];
     judge(&needs, with_word(site, a))
 }
 
 pub(crate) fn rule_store(site: &RuleContext<'_>, w: WordIndex, b: Register) -> Ruling
     ensures { Finds site.now (rule_store site.now.image site.now.method site.now.shape w b) (Goes_on As_before) result }
 {
-    let needs = [site.needs_word_of_object(w), site.needs_word(b)];
+    let needs = [site.needs_word(b), site.needs_word_of_object(w)];
     judge(&needs, site.next(site.shape))
 }
 

@@ -7,13 +7,13 @@ use Rattle.aom_safety.specs.Laws.{IsWired}
 use Rattle.aom_link_conditions.specs.Roles.{role_of}
 use Rattle.aom_roles.specs.Families.{parent_of, fields_above}
 use Rattle.aom_safety.proofs.RolesLemmas.{child, itself, through}
-use Rattle.aom_semantics.specs.Destruction.{begun_by, class_destructor, next_destructor, needs_past, is_past}
+use Rattle.aom_semantics.specs.Destruction.{begun_by, class_destructor, is_at_rest, next_destructor, needs_past, needs_rest, is_past}
 use Rattle.aom_safety.proofs.Dropping.{held_dropped, queue_dropped}
 use Rattle.aom_safety.proofs.ReceiverHolding.{destructs_member}
 use Rattle.aom_safety.proofs.Destroying.{eqb_comm, begins_line, destroys_by, Destroys, Bare, untouched, Untouched}
 use Rattle.std.proofs.Common.{leb-true, [], Bool, IsTrue, List, None, Option, Some, ap, arith, cond, false}
 use Rattle.std.proofs.Common.{length, refl, subst, suc, sym, true, zero, ℕ, ◌==◌, ◌∙◌, ◌∷◌, ◌≡◌, ◌≤◌, ◌&&◌}
-use Rattle.std.proofs.lemmas.Bool.{and_parts, eqb-true}
+use Rattle.std.proofs.lemmas.Bool.{and_parts, eq-eqb, eqb-true}
 use Rattle.std.specs.Prelude.{slice_get, nat_le}
 use Rattle.aom_image.specs.Image.{Image}
 use Rattle.aom_image.specs.Views.{fields_of, has, method_role}
@@ -32,18 +32,18 @@ use Rattle.aom_abstract_state.specs.declared.kind.FieldState.{FieldState}
 use Rattle.aom_abstract_state.specs.declared.kind.FieldState.TheVariants.{Perhaps}
 use Rattle.aom_abstract_state.specs.declared.kind.Kind.TheVariants.{Null}
 use Rattle.aom_safety.proofs.Claimed.{claim_unclaimed, claim_register_above}
-use Rattle.aom_safety.proofs.Finishing.{ReturnLaw, ended_plainly, no_entries, none_left, none_owns_at, return_needs, same_items}
-use Rattle.aom_safety.proofs.Going.{past_by}
+use Rattle.aom_safety.proofs.Finishing.{ReturnLaw, all_join, ended_plainly, no_entries, none_left, none_owns_at, return_needs, same_items}
+use Rattle.aom_safety.proofs.Going.{dying_rests, past_by}
 use Rattle.aom_safety.proofs.Straight.{At, fits_unowning}
 use Rattle.aom_safety.specs.Claims.{forms, declared_field, Dying, Layer, claim, declared, items_of, own_field, tasks_of}
 use Rattle.aom_semantics.specs.Places.{Queued, Session, Request, Cell, CellView, In_service, Elsewhere, Entry}
-use Rattle.aom_semantics.specs.Places.{Field, Going, Object, Place, Register, Root, held, seen}
+use Rattle.aom_semantics.specs.Places.{Field, Going, Object, Place, Register, Root, held, requested, seen}
 use Rattle.aom_semantics.specs.Servers.{is_queue_of, without_queue}
 use Rattle.aom_semantics.specs.State.{receiver_holder, Choice, Frame, Inside, State, thing_holder}
 use Rattle.aom_safety.specs.WellTyped.{Gone, WellTyped, ReceiverConforms, IsOfFamily, Fits, Good}
 use Rattle.aom_abstract_state.specs.Arguments.{after_of}
 use Rattle.aom_roles.specs.States.{states_of, last_of}
-use Rattle.aom_safety.specs.Requests.{AllConformTo, ConformsTo, resting_in}
+use Rattle.aom_safety.specs.Requests.{AllConformTo, ConformsTo, resting_in, states_claim, thing_kind}
 use Rattle.aom_safety.proofs.ConformingTo.{unworked_rests, known_plain, same_object, conforms_to_less}
 use Rattle.aom_safety.proofs.Attending.{plain_claim}
 
@@ -154,6 +154,12 @@ module _ (p : Image) (t : Typing) (c : Choice) (s : State) (fr : Frame) (sh : Ab
     conforms_to_dying : AllConformTo p cs (Dying o ∷ ls)
     conforms_to_dying x lives = grind (arith, nat_tests, receiver, same_object, conforms_to_less, known_plain, destructs_only, destructs)
 
+    -- so its request is at rest
+    rests : is_at_rest (requested cs o.name) ≡ true
+    rests = dying_rests (thing_kind p o.thing) (requested cs o.name)
+        (subst (λ b. ConformsTo (thing_kind p o.thing) (cond b (resting_in (last_of (thing_kind p o.thing))) (states_claim p o ls)) (requested cs o.name))
+        (eq-eqb o.name o.name refl) (conforms_to_dying o has_task.good.stack.4.0.0))
+
     -- with no fields of the parent's class the cell goes
     goes : ((f : ℕ) → held cs (Field o.name f) ≡ None) → Good p t cs (Dying o ∷ ls)
     goes null = search (arith, nat_tests, conforms_to_dying, eqb-true o.name, beside)
@@ -244,7 +250,8 @@ module _ (p : Image) (t : Typing) (c : Choice) (s : State) (fr : Frame) (sh : Ab
       let free : none_owns sh.registers ≡ true = ap (λ g. none_owns (result_moved p fr.method fr.place sh g a).registers) (sym its.3) ∙ r.free in
       let entries : no_entry sh.entries ≡ true = none_left p fr sh a its.3 r in
       let items = same_items p t c s fr sh (Dying o ∷ ls) has_task entries in (
-        return_needs p t c s fr sh (Dying o ∷ ls) has_task a r (rw its.3 tt) (rw receiver (rw line.of (left entries free done r.ends))),
+        return_needs p t c s fr sh (Dying o ∷ ls) has_task a r (rw its.3 tt) (rw receiver (rw line.of (all_join (needs_past above (without_queue o.name cs) o.name)
+            (needs_rest cs o.name ∷ []) (left entries free done r.ends) (rests entries free done r.ends, tt)))),
         grind (
           arith,
           nat_tests,

@@ -274,7 +274,7 @@ goes_on p t s (Dying o ∷ ls) stack fits conforms_to no_duplicates tasks items 
 goes_on p t s _ stack fits conforms_to no_duplicates tasks items undo_operations = absurd stack.0
 
 -- what is about to go is at rest
-dying_rests : (k : Option ClassKind) (r : Option Request) → ConformsTo k (resting_in (last_of k)) r → is_at_rest r ≡ true
+pub dying_rests : (k : Option ClassKind) (r : Option Request) → ConformsTo k (resting_in (last_of k)) r → is_at_rest r ≡ true
 unfolding last_of
 dying_rests k x s = grind arith
 

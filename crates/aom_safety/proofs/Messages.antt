@@ -68,7 +68,7 @@ module _ (p : Image) (t : Typing) (c : Choice) (s : State) (fr : Frame) (sh : Ab
 
   pub law_take_message : (a : ℕ) → Law p t c s fr sh ls has_task (TakeMessage a)
   law_take_message a n leads = (
-    (serves_role (method_role p fr.method) n.1.0, (ap is_some there.1, (ap is_none free, tt))),
+    (ap is_none free, (serves_role (method_role p fr.method) n.1.0, (ap is_some there.1, tt))),
     well p t c s fr sh ls has_task (does p c fr (tasks_of ls) s (TakeMessage a)) (next (set_word fr a None)) after refl has_task.items has_task.undo_operations
         (settle p t (moved (Elsewhere In_service) (top ls a) s.cells) (next (set_word fr a None)) after ls taken leads.0),
   )

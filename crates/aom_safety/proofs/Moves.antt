@@ -129,7 +129,7 @@ module _ (p : Image) (t : Typing) (c : Choice) (s : State) (fr : Frame) (sh : Ab
 
   pub law_take : (a f : ℕ) → Law p t c s fr sh ls has_task (Take a f)
   law_take a f n leads = (
-    (n.0, (ap is_none free, tt)),
+    (ap is_none free, (n.1.0, tt)),
     well p t c s fr sh ls has_task
         (does p c fr (tasks_of ls) s (Take a f)) (next (set_word fr a None)) (set_register (set_field sh f Empty) a k) refl has_task.items has_task.undo_operations
         (settle p t (moved (field_place fr.receiver f) (top ls a) s.cells) (next (set_word fr a None)) (set_register (set_field sh f Empty) a k) ls goes leads.0),
@@ -145,13 +145,13 @@ module _ (p : Image) (t : Typing) (c : Choice) (s : State) (fr : Frame) (sh : Ab
       k = filled (field_thing p (holder_of p fr.method) f) (field sh f)
 
       same : field_thing p (receiver_holder fr.receiver) f ≡ field_thing p (holder_of p fr.method) f
-      same = receiver_conforms_field p _ _ f has_task.good.stack.1.holder n.0
+      same = receiver_conforms_field p _ _ f has_task.good.stack.1.holder n.1.0
 
       some : is_some (field_thing p (receiver_holder fr.receiver) f) ≡ true
-      some = ap is_some same ∙ n.0
+      some = ap is_some same ∙ n.1.0
 
       free : held s.cells (top ls a) ≡ None
-      free = free_register p t c s fr sh ls has_task a n.1.0
+      free = free_register p t c s fr sh ls has_task a n.0
 
       no_word_in : (x : Option Thing) (y : FieldState) → WordFits None (filled x y)
       no_word_in (Some x) Empty = refl

@@ -237,7 +237,7 @@ module _ (p : Image) (t : Typing) (main_none : (m : ℕ) → method_role p m ≡
       (fitted p t s.cells fr sh ls has_task.good)
 
   pub law_status : (a : ℕ) → Law p t c s fr sh ls has_task (Status a)
-  law_status a n leads = ((active_receiver n.0, (unowned p t c s fr sh ls has_task a n.1.0, tt)), writes_word p t c s fr sh ls has_task a (status_of own) n.1.0 leads)
+  law_status a n leads = ((unowned p t c s fr sh ls has_task a n.0, (active_receiver n.1.0, tt)), writes_word p t c s fr sh ls has_task a (status_of own) n.0 leads)
 
   -- it is in one of the states that are left of these
   within : (listed : is_listed_kind (own_kind p fr.method) ≡ true) (x : ℕ) → IsTrue (has x (state_of own)) → IsTrue (has (bit_and sh.states x) (state_of own))

@@ -46,14 +46,14 @@ module _ (p : Image) (t : Typing) (main_none : (m : ℕ) → method_role p m ≡
       let fr' = set_word fr a (Some w) in
       let sh' = set_register sh a Word in
       let cs = session_updated s.cells fr.receiver session in
-      let written = write p t s.cells fr sh ls a (Some w) Word (fitted p t s.cells fr sh ls has_task.good) n.1.0 (λ h. tt) tt in
+      let written = write p t s.cells fr sh ls a (Some w) Word (fitted p t s.cells fr sh ls has_task.good) n.0 (λ h. tt) tt in
       let h = stepped p t cs fr' sh' ls (sessioned_fitted p t s.cells fr.receiver session fr' sh' ls written) in
-      ((native_receiver n.0, (unowned p t c s fr sh ls has_task a n.1.0, tt)), well p t c s fr sh ls has_task _ (next fr') sh' refl has_task.items has_task.undo_operations (settle p t cs (next fr') sh' ls h leads.0))
+      ((unowned p t c s fr sh ls has_task a n.0, (native_receiver n.1.0, tt)), well p t c s fr sh ls has_task _ (next fr') sh' refl has_task.items has_task.undo_operations (settle p t cs (next fr') sh' ls h leads.0))
 
   pub law_ask : (a b x : ℕ) → Law p t c s fr sh ls has_task (Ask a b x)
   law_ask a b x n leads = (
-    (has_word p t c s fr sh ls has_task b n.0, (has_word p t c s fr sh ls has_task x n.1.0, (native_receiver n.1.1.0, (unowned p t c s fr sh ls has_task a n.1.1.1.0, tt)))),
-    writes_word p t c s fr sh ls has_task a (observed p c fr (tasks_of ls) s replied) n.1.1.1.0 leads,
+    (has_word p t c s fr sh ls has_task b n.0, (has_word p t c s fr sh ls has_task x n.1.0, (unowned p t c s fr sh ls has_task a n.1.1.0, (native_receiver n.1.1.1.0, tt)))),
+    writes_word p t c s fr sh ls has_task a (observed p c fr (tasks_of ls) s replied) n.1.1.0 leads,
   )
 
   pub law_close : Law p t c s fr sh ls has_task Close

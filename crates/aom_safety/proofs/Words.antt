@@ -66,14 +66,14 @@ module _ (p : Image) (t : Typing) (c : Choice) (s : State) (fr : Frame) (sh : Ab
       ((has_word a n.0, tt), well p t c s fr sh ls has_task _ (next fr) sh refl has_task.items has_task.undo_operations (grind (arith, nat_tests, settle, stepped, fitted)))
 
   pub law_load : (a w : ℕ) → Law p t c s fr sh ls has_task (Load a w)
-  law_load a w n leads = ((n.0, (unowned a n.1.0, tt)), writes_word a (loaded s.cells fr.receiver w) n.1.0 leads)
+  law_load a w n leads = ((unowned a n.0, (n.1.0, tt)), writes_word a (loaded s.cells fr.receiver w) n.0 leads)
 
   pub law_store : (w b : ℕ) → Law p t c s fr sh ls has_task (Store w b)
   law_store w b n leads =
       let v = read fr (tasks_of ls) s b in
       let cs = stored s.cells fr.receiver w v in
       let h = stepped p t cs fr sh ls (stored_fitted p t s.cells fr.receiver w v fr sh ls (fitted p t s.cells fr sh ls has_task.good)) in
-      ((n.0, (has_word b n.1.0, tt)), well p t c s fr sh ls has_task (does p c fr (tasks_of ls) s (Store w b)) (next fr) sh refl has_task.items has_task.undo_operations (settle p t cs (next fr) sh ls h leads.0))
+      ((has_word b n.0, (n.1.0, tt)), well p t c s fr sh ls has_task (does p c fr (tasks_of ls) s (Store w b)) (next fr) sh refl has_task.items has_task.undo_operations (settle p t cs (next fr) sh ls h leads.0))
 
   -- each instruction of this file by its law
   abbrev pub of_words : (i : Instr) → Option (Law p t c s fr sh ls has_task i)

@@ -48,7 +48,7 @@ pub fn loops_keep()
     ensures { LoopsKeep }
 {}
 
-/// Every move of a well-typed state is one of the four above.
+/// Every move of a well-typed state is one of the four above, or the fifth: before a server goes a session of it does, or its destructor begins.
 pub fn step_keeps()
     ensures { StepKeeps }
 {}

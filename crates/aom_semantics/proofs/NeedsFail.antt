@@ -41,7 +41,7 @@ call_needs_fail = record {
 
 pub return_needs_fail : ReturnNeedsFail
 unfolding class_at class_in fields_in gives_in instr_in method_at role_in descends_in parent_in
-return_needs_fail = record { given = refl; level = refl; left = refl; owners = refl; waiting = refl; hanging = refl }
+return_needs_fail = record { given = refl; level = refl; left = refl; owners = refl; waiting = refl; hanging = refl; resting = refl }
 
 pub cleanup_needs_fail : CleanupNeedsFail
 unfolding class_at class_in fields_in gives_in instr_in method_at role_in words_in descends_in parent_in

@@ -46,7 +46,7 @@ overriders_run = record { child = refl; near = refl; slots = refl; self = refl }
 
 pub lines_run : LinesRun
 unfolding shown
-lines_run = record { past_a_gap = refl; emptied = refl; left = refl; parent = refl; above = refl; below = refl }
+lines_run = record { past_a_gap = refl; emptied = refl; left = refl; parent = refl; above = refl; below = refl; active = refl; issued = refl }
 
 pub constructs_run : ConstructsRun
 unfolding shown

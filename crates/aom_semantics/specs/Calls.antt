@@ -24,7 +24,7 @@ use Rattle.aom_semantics.specs.Clients.{at_opening, client_at, with_client}
 use Rattle.aom_semantics.specs.Servers.{without_queue, opened, reserved}
 use Rattle.aom_semantics.specs.Places.{Object, Place, Register, Entry, Field, Going, Elsewhere, Cell, held, moved, Session, In_service}
 use Rattle.aom_semantics.specs.State.{Receiver, Static, AtRoot, Inside, Frame, Dispatch, Asks, Answered, Task, Run, Trapped, Destroy, Unwind, Dispatched, Item, An_object, An_operation, A_mark, State, Need, Unbalanced, PopUnder, Orphan, NullOrDead, WrongKind, word, set_word, next, field_place, receiver_view, frame_as, Of_server, Of_object, Accepts, Accepted, Serves, MessageLost, CompletedTwice}
-use Rattle.aom_semantics.specs.Destruction.{line_on, needs_past}
+use Rattle.aom_semantics.specs.Destruction.{line_on, needs_past, needs_rest}
 use Rattle.aom_semantics.specs.Requests.{needs_cancelled}
 use Rattle.aom_semantics.specs.Tokens.{is_redeemable, token_of}
 use Rattle.aom_semantics.specs.Words.{here, needs_word, word_or_zero}
@@ -268,11 +268,12 @@ abbrev pub reported_answer : Gives → Frame → ℕ → ℤ
 reported_answer A_word fr a = word_or_zero (word fr a)
 reported_answer _ fr a = pos 0
 
--- what a destructor works on is a cell, no field of which owns past those of the parent of its class; what waits in its queue is none
+-- what a destructor works on is a cell, no field of which owns past those of the parent of its class; what waits in its queue is none. Its request is at rest
+-- as each destructor of the line ends
 abbrev pub needs_destroyed : Image → ℕ → List Cell → Receiver → List Need
 needs_destroyed p m cs Static = (false, Orphan) ∷ []
 needs_destroyed p m cs AtRoot = (false, Orphan) ∷ []
-needs_destroyed p m cs (Inside o from) = needs_past (fields_above p (parent_above p m)) (without_queue o.name cs) o.name
+needs_destroyed p m cs (Inside o from) = needs_past (fields_above p (parent_above p m)) (without_queue o.name cs) o.name ++ (needs_rest cs o.name ∷ [])
 
 -- ---- the method that a dispatch runs under its trap
 

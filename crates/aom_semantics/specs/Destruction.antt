@@ -73,9 +73,13 @@ abbrev pub is_at_rest : Option Request → Bool
 is_at_rest None = true
 is_at_rest (Some r) = is_idle r.phase
 
+-- as a destructor of an object ends, and as its cell goes, its request is at rest
+abbrev pub needs_rest : List Cell → ℕ → Need
+needs_rest cs n = (is_at_rest (requested cs n), ActiveDestroyed)
+
 -- what the going of a cell needs: first of its fields, then of its request
 abbrev pub needs_gone : List Cell → Object → List Need
-needs_gone cs o = needs_emptied cs o.name ++ ((is_at_rest (requested cs o.name), ActiveDestroyed) ∷ [])
+needs_gone cs o = needs_emptied cs o.name ++ (needs_rest cs o.name ∷ [])
 
 -- a cell is gone, with what waits in its queue where it is a server
 abbrev pub reclaimed : Object → List Task → State → State

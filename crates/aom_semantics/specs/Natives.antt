@@ -11,7 +11,7 @@ use Rattle.aom_roles.specs.Kinds.{is_native_kind}
 use Rattle.aom_semantics.specs.Requests.{completed_with, receiver_kind, is_idle, on_request, own_request, pending, recorded, thing_kind}
 use Rattle.aom_semantics.specs.Places.{Cell, Request, in_session, set_session}
 use Rattle.aom_semantics.specs.State.{Frame, Receiver, Static, AtRoot, Inside, Need, State, Task, ClosedWhileOutstanding, WrongKind}
-use Rattle.aom_semantics.specs.Words.{needs_word, needs_written}
+use Rattle.aom_semantics.specs.Words.{needs_unowning, needs_word}
 
 -- ---- natives and sessions
 
@@ -110,10 +110,10 @@ module _ (p : Image) (fr : Frame) (ts : List Task) (s : State) where
   needs_native = (is_native_kind (receiver_kind p fr.receiver), WrongKind)
 
   abbrev pub needs_connect : ℕ → List Need
-  needs_connect a = needs_native ∷ needs_written fr ts s a
+  needs_connect a = needs_unowning fr ts s a ∷ needs_native ∷ []
 
   abbrev pub needs_ask : ℕ → ℕ → ℕ → List Need
-  needs_ask a b x = needs_word fr ts s b ∷ needs_word fr ts s x ∷ needs_native ∷ needs_written fr ts s a
+  needs_ask a b x = needs_word fr ts s b ∷ needs_word fr ts s x ∷ needs_unowning fr ts s a ∷ needs_native ∷ []
 
   -- nothing is owed to what the session is closed for
   abbrev pub needs_close : List Need

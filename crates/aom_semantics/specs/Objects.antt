@@ -8,7 +8,7 @@ use Rattle.aom_image.specs.declared.method.Role.TheVariants.{Service as Attends}
 use Rattle.aom_roles.specs.Shapes.{is_role}
 use Rattle.aom_semantics.specs.Places.{Object, held, Elsewhere, In_service}
 use Rattle.aom_semantics.specs.State.{Frame, Task, State, Choice, Need, Orphan, WrongKind, word, field_place, NullOrDead}
-use Rattle.aom_semantics.specs.Words.{here, needs_written}
+use Rattle.aom_semantics.specs.Words.{here, needs_unowning, needs_written}
 
 -- what may stand for that thing, or nothing
 abbrev pub is_thing : Image → Thing → Option Object → Bool
@@ -43,7 +43,7 @@ module _ (p : Image) (c : Choice) (fr : Frame) (ts : List Task) (s : State) wher
   needs_jump_empty f = needs_field f ∷ []
 
   abbrev pub needs_take : ℕ → ℕ → List Need
-  needs_take a f = needs_field f ∷ needs_written fr ts s a
+  needs_take a f = needs_unowning fr ts s a ∷ needs_field f ∷ []
 
   abbrev pub needs_put : ℕ → ℕ → List Need
   needs_put f b =
@@ -54,7 +54,7 @@ module _ (p : Image) (c : Choice) (fr : Frame) (ts : List Task) (s : State) wher
 
   -- the method serves a message, and has not taken it yet
   abbrev pub needs_take_message : ℕ → List Need
-  needs_take_message a = (is_role Attends (method_role p fr.method), NullOrDead) ∷ (is_some (held s.cells (Elsewhere In_service)), NullOrDead) ∷ needs_written fr ts s a
+  needs_take_message a = needs_unowning fr ts s a ∷ (is_role Attends (method_role p fr.method), NullOrDead) ∷ (is_some (held s.cells (Elsewhere In_service)), NullOrDead) ∷ []
 
   abbrev pub needs_delete : ℕ → List Need
   needs_delete a = (is_none (word fr a), WrongKind) ∷ (is_no_message (held s.cells (here fr ts s a)), WrongKind) ∷ []

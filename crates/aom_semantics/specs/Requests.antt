@@ -17,7 +17,7 @@ use Rattle.aom_roles.specs.Kinds.{is_active_kind, is_issuing_kind, is_listed_kin
 use Rattle.aom_roles.specs.Shapes.{kind_of}
 use Rattle.aom_semantics.specs.Places.{Cell, Phase, Idle, Issued, Active, Cancelling, Aborted, Request, Timer, requested, set_request}
 use Rattle.aom_semantics.specs.State.{AddedWrong, AlreadyActive, CancelHang, Frame, Receiver, Static, AtRoot, Inside, Need, RequestOverlap, State, Task, WrongKind}
-use Rattle.aom_semantics.specs.Words.{needs_word, needs_written}
+use Rattle.aom_semantics.specs.Words.{needs_unowning, needs_word}
 
 -- the kind of class of a thing
 abbrev pub thing_kind : Image → Thing → Option ClassKind
@@ -241,7 +241,7 @@ module _ (p : Image) (fr : Frame) (ts : List Task) (s : State) where
   needs_added = (is_some own, AddedWrong)
 
   abbrev pub needs_status : ℕ → List Need
-  needs_status a = needs_active ∷ needs_written fr ts s a
+  needs_status a = needs_unowning fr ts s a ∷ needs_active ∷ []
 
   abbrev pub needs_jump_active : List Need
   needs_jump_active = needs_active ∷ []

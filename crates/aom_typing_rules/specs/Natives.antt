@@ -13,14 +13,14 @@ use Rattle.aom_abstract_state.specs.declared.why.Reason.TheVariants.{NotIdle, Re
 module _ (p : Image) (m : ℕ) (sh : AbstractState) where
   -- the answer may take the place of what owns nothing
   abbrev pub rule_connect : ℕ → List Need
-  rule_connect a = (is_native_kind (own_kind p m), RegisterKind) ∷ (is_unowning (register sh a), RegisterKind) ∷ []
+  rule_connect a = (is_unowning (register sh a), RegisterKind) ∷ (is_native_kind (own_kind p m), RegisterKind) ∷ []
 
   abbrev pub rule_ask : ℕ → ℕ → ℕ → List Need
   rule_ask a b x =
       (is_word (register sh b), RegisterKind)
       ∷ (is_word (register sh x), RegisterKind)
-      ∷ (is_native_kind (own_kind p m), RegisterKind)
       ∷ (is_unowning (register sh a), RegisterKind)
+      ∷ (is_native_kind (own_kind p m), RegisterKind)
       ∷ []
 
   -- no request is outstanding at the native

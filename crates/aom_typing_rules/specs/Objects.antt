@@ -47,7 +47,7 @@ module _ (p : Image) (m : ℕ) (pc : ℕ) (sh : AbstractState) where
   flow_jump_empty Perhaps f to = (suc pc, set_field sh f Full) ∷ (to, set_field sh f Empty) ∷ []
 
   abbrev pub rule_take : ℕ → ℕ → List Need
-  rule_take a f = (is_some (field_thing p (holder_of p m) f), RegisterKind) ∷ (is_unowning (register sh a), RegisterKind) ∷ []
+  rule_take a f = (is_unowning (register sh a), RegisterKind) ∷ (is_some (field_thing p (holder_of p m) f), RegisterKind) ∷ []
 
   abbrev pub after_take : ℕ → ℕ → AbstractState
   after_take a f = set_register (set_field sh f Empty) a (filled (field_thing p (holder_of p m) f) (field sh f))

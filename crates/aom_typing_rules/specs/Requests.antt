@@ -47,7 +47,7 @@ flow_narrowed sh place states = flow_in sh place (bit_and sh.states states)
 
 module _ (p : Image) (m : ℕ) (sh : AbstractState) where
   abbrev pub rule_status : ℕ → List Need
-  rule_status a = (is_active_kind (own_kind p m), RegisterKind) ∷ (is_unowning (register sh a), RegisterKind) ∷ []
+  rule_status a = (is_unowning (register sh a), RegisterKind) ∷ (is_active_kind (own_kind p m), RegisterKind) ∷ []
 
   abbrev pub rule_jump_active : List Need
   rule_jump_active = (is_active_kind (own_kind p m), RegisterKind) ∷ []

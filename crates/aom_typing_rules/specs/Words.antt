@@ -42,7 +42,7 @@ module _ (pc : ℕ) (sh : AbstractState) where
 
 module _ (p : Image) (m : ℕ) (sh : AbstractState) where
   abbrev pub rule_load : ℕ → ℕ → List Need
-  rule_load a w = (nat_lt w (word_count p (holder_of p m)), RegisterKind) ∷ (is_unowning (register sh a), RegisterKind) ∷ []
+  rule_load a w = (is_unowning (register sh a), RegisterKind) ∷ (nat_lt w (word_count p (holder_of p m)), RegisterKind) ∷ []
 
   abbrev pub rule_store : ℕ → ℕ → List Need
-  rule_store w b = (nat_lt w (word_count p (holder_of p m)), RegisterKind) ∷ (is_word (register sh b), RegisterKind) ∷ []
+  rule_store w b = (is_word (register sh b), RegisterKind) ∷ (nat_lt w (word_count p (holder_of p m)), RegisterKind) ∷ []

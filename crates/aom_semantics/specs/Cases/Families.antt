@@ -18,7 +18,7 @@ use Rattle.aom_transcript.specs.declared.line.Ending.TheVariants.{Stopped}
 use Rattle.aom_transcript.specs.declared.line.Line.TheVariants.{Gone, Main, Out}
 use Rattle.aom_semantics.specs.Cases.Programs.{a_method}
 use Rattle.aom_semantics.specs.Cases.Running.{RunsTo, Sticks, run_of}
-use Rattle.aom_semantics.specs.State.{Orphan}
+use Rattle.aom_semantics.specs.State.{ActiveDestroyed, Orphan}
 
 -- an image of the second version
 abbrev pub a_family : List ClassDecl → List Method → Image
@@ -165,6 +165,16 @@ parent_cancels = RunsTo 80 (waiting (cancels 0 ∷ [])) [] Stopped 0 (Out (pos 1
 abbrev pub child_cancels : Type 0
 child_cancels = RunsTo 80 (waiting (cancels 1 ∷ cancels 0 ∷ [])) [] Stopped 0 (Out (pos 2) ∷ Gone 1 ∷ [])
 
+-- a child's destructor that leaves its object active is stuck as it ends, though the parent's would cancel
+abbrev pub ends_active : Type 0
+ends_active = run_of 80 (waiting (a_method (Some 1) Destruct [] Nothing (Return 0 ∷ []) ∷ cancels 0 ∷ [])) [] ≡ Sticks (Main 0 ∷ []) ActiveDestroyed
+
+-- and so is one that leaves a request issued
+abbrev pub ends_issued : Type 0
+ends_issued =
+    run_of 80 (waiting (a_method (Some 1) Destruct [] Nothing (Cancel ∷ Const 0 (pos 5) ∷ Issue 0 0 ∷ Return 0 ∷ []) ∷ cancels 0 ∷ [])) []
+    ≡ Sticks (Main 0 ∷ Out (pos 2) ∷ []) ActiveDestroyed
+
 -- each of these runs comes out so
 pub record LinesRun : Type 0 where
   pub past_a_gap : gap
@@ -173,3 +183,5 @@ pub record LinesRun : Type 0 where
   pub parent : as_the_parent
   pub above : parent_cancels
   pub below : child_cancels
+  pub active : ends_active
+  pub issued : ends_issued

@@ -40,6 +40,8 @@ connect_cases =
     ∷ owing_case (Connect 0) Active pending []
     ∷ unserved_case (Connect 0) (WrongKind ∷ [])
     ∷ owning_case (Connect 0) (Orphan ∷ [])
+    -- what is written is asked for before the native
+    ∷ record (owning_case (Connect 0) (Orphan ∷ WrongKind ∷ [])) { receiver = inside waiter }
     ∷ elsewhere_cases (Connect 0) (WrongKind ∷ [])
 
 abbrev pub ask_cases : List Case
@@ -51,6 +53,8 @@ ask_cases =
     ∷ record (served_case (Ask 0 0 1) (WrongKind ∷ [])) { words = None ∷ seven ∷ [] }
     ∷ unserved_case (Ask 0 0 1) (WrongKind ∷ [])
     ∷ owning_case (Ask 0 0 1) (Orphan ∷ [])
+    -- and what is written before the native
+    ∷ record (owning_case (Ask 0 0 1) (Orphan ∷ WrongKind ∷ [])) { receiver = inside waiter }
     ∷ elsewhere_cases (Ask 0 0 1) (WrongKind ∷ [])
 
 abbrev pub close_cases : List Case

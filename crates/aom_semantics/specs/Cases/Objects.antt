@@ -35,7 +35,8 @@ field_cases =
     ∷ record (fails (Take 0 2) (WrongKind ∷ [])) { receiver = inside pair }
     ∷ fails (Take 0 0) (WrongKind ∷ [])
     ∷ record (fails (Take 0 1) (Orphan ∷ [])) { receiver = inside pair; cells = a_cell 1 leaf (mine 0) ∷ [] }
-    ∷ record (fails (Take 0 2) (WrongKind ∷ Orphan ∷ [])) { receiver = inside pair; cells = a_cell 1 leaf (mine 0) ∷ [] }
+    -- what is written is asked for first
+    ∷ record (fails (Take 0 2) (Orphan ∷ WrongKind ∷ [])) { receiver = inside pair; cells = a_cell 1 leaf (mine 0) ∷ [] }
     -- what is put is what the field is declared for, or null, and the field is null
     ∷ record (fails (Put 0 0) []) { receiver = inside pair; cells = a_cell 1 leaf (mine 0) ∷ [] }
     ∷ record (fails (Put 0 0) []) { receiver = inside pair }

@@ -37,6 +37,8 @@ reading_cases =
     ∷ record (unlisted_case (Status 0) (WrongKind ∷ [])) { receiver = inside keeper }
     -- what is written owns
     ∷ record (unlisted_case (Status 0) (Orphan ∷ [])) { cells = a_cell 1 leaf (mine 0) ∷ [] }
+    -- which is asked for before the class
+    ∷ record (unlisted_case (Status 0) (Orphan ∷ WrongKind ∷ [])) { receiver = inside pair; cells = a_cell 1 leaf (mine 0) ∷ [] }
     ∷ (elsewhere_cases (JumpActive 0) (WrongKind ∷ []) ++ (elsewhere_cases (JumpAdded 0) (WrongKind ∷ []) ++ elsewhere_cases (Status 0) (WrongKind ∷ [])))
 
 abbrev pub enlist_cases : List Case

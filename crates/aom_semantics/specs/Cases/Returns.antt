@@ -5,10 +5,10 @@ use Rattle.aom_image.specs.declared.method.Gives.{Gives}
 use Rattle.aom_image.specs.declared.method.Gives.TheVariants.{Nothing, Word as A_word, Own as An_own, Maybe as A_maybe, Left}
 use Rattle.aom_image.specs.declared.method.Thing.TheVariants.{Message}
 use Rattle.aom_image.specs.declared.method.Role.{Role}
-use Rattle.aom_image.specs.declared.method.Role.TheVariants.{Cancel, Do}
+use Rattle.aom_image.specs.declared.method.Role.TheVariants.{Cancel, Destruct, Do}
 use Rattle.aom_semantics.specs.Requests.{cancelled_code, pending}
-use Rattle.aom_semantics.specs.Places.{Aborted, Active, Cancelling, Elsewhere, Entry, Field, Phase, Place, Register, Root}
-use Rattle.aom_semantics.specs.State.{Static, frame_of, Task, Run, Trapped, Destroy, Unwind, Dispatched, Of_main, An_object, An_operation, A_mark, Stuck, CancelHang, Unbalanced, MessageLost, Orphan, NullOrDead, WrongKind}
+use Rattle.aom_semantics.specs.Places.{Aborted, Active, Cancelling, Elsewhere, Entry, Field, Idle, Issued, Phase, Place, Register, Root}
+use Rattle.aom_semantics.specs.State.{Static, frame_of, Task, Run, Trapped, Destroy, Unwind, Dispatched, Of_main, An_object, An_operation, A_mark, Stuck, ActiveDestroyed, CancelHang, Unbalanced, MessageLost, Orphan, NullOrDead, WrongKind}
 use Rattle.aom_semantics.specs.Cases.Building.{child, leaf, pair, waiter, seven, a_cell, at_bottom, mine, inside, Case, fails, AllComeOut}
 
 -- a method that waits for another
@@ -137,6 +137,23 @@ hanging_cases =
     ∷ record (asked Cancel Cancelling pending (CancelHang ∷ Unbalanced ∷ [])) { below = [] }
     ∷ []
 
+-- a destructor leaves no request that is issued, waited for or being cancelled, which is asked once the fields are
+abbrev pub resting_case : Phase → List Stuck → Case
+resting_case phase kinds = record (asked Destruct phase (pos 0) kinds) { below = Destroy ∷ at_bottom }
+
+abbrev pub resting_cases : List Case
+resting_cases =
+    resting_case Idle []
+    ∷ resting_case Issued (ActiveDestroyed ∷ [])
+    ∷ resting_case Active (ActiveDestroyed ∷ [])
+    ∷ resting_case Cancelling (ActiveDestroyed ∷ [])
+    ∷ resting_case Aborted (ActiveDestroyed ∷ [])
+    ∷ record (resting_case Active []) { cells = a_cell 9 waiter (Elsewhere Root) ∷ [] }
+    ∷ record (resting_case Active (Orphan ∷ ActiveDestroyed ∷ [])) { cells = a_cell 1 leaf (Field 9 0) ∷ (resting_case Active []).cells }
+    -- no other method is asked so
+    ∷ asked Destruct Active (pos 0) []
+    ∷ []
+
 -- each need of a return can fail
 pub record ReturnNeedsFail : Type 0 where
   pub given : AllComeOut given_cases
@@ -151,3 +168,4 @@ pub record ReturnNeedsFail : Type 0 where
   pub owners : AllComeOut owner_cases
   pub waiting : AllComeOut waiting_cases
   pub hanging : AllComeOut hanging_cases
+  pub resting : AllComeOut resting_cases

@@ -45,6 +45,9 @@ taking_cases =
     ∷ record taking { role = Do; unmet = NullOrDead ∷ [] }
     ∷ record taking { cells = []; unmet = NullOrDead ∷ [] }
     ∷ record taking { cells = a_message ∷ a_cell 3 leaf (mine 0) ∷ []; unmet = Orphan ∷ [] }
+    -- a second one is asked for its register first, which owns the message that is taken
+    ∷ record taking { cells = a_cell 1 Message (mine 0) ∷ []; unmet = Orphan ∷ NullOrDead ∷ [] }
+    ∷ record taking { role = Do; cells = a_cell 1 Message (mine 0) ∷ []; unmet = Orphan ∷ NullOrDead ∷ NullOrDead ∷ [] }
     ∷ []
 
 -- a method that owns a message, and has a word

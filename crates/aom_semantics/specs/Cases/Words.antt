@@ -54,7 +54,8 @@ cell_word_cases =
     ∷ record (fails (Load 0 0) (WrongKind ∷ [])) { receiver = inside leaf }
     ∷ record (fails (Load 0 1) (WrongKind ∷ [])) { receiver = inside pair }
     ∷ record (fails (Load 0 0) (Orphan ∷ [])) { receiver = inside pair; cells = a_cell 1 leaf (mine 0) ∷ [] }
-    ∷ record (fails (Load 0 1) (WrongKind ∷ Orphan ∷ [])) { receiver = inside pair; cells = a_cell 1 leaf (mine 0) ∷ [] }
+    -- what is written is asked for first
+    ∷ record (fails (Load 0 1) (Orphan ∷ WrongKind ∷ [])) { receiver = inside pair; cells = a_cell 1 leaf (mine 0) ∷ [] }
     -- a method of an ancestor reaches the words of its own class alone
     ∷ record (fails (Load 0 1) []) { receiver = inside child }
     ∷ record (fails (Load 0 0) []) { receiver = inside child; class = Some 1 }

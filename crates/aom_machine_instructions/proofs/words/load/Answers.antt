@@ -7,7 +7,7 @@ use Rattle.aom_machine_instructions.proofs.ReceiverHolding.{finds_words}
 use Rattle.aom_machine_instructions.proofs.words.load.Goals as goal
 
 pub field_word-value-requires-clause-lives : goal.field_word-value-requires-clause-lives
-field_word-value-requires-clause-lives c = finds_words c.requires.0 c.args.parts.now _ c.args.word c.requires.1 (λ ch fr ts s needs. needs.0)
+field_word-value-requires-clause-lives c = finds_words c.requires.0 c.args.parts.now _ c.args.word c.requires.1 (λ ch fr ts s needs. needs.1.0)
 
 pub returns : goal.returns
 returns c = λ refused.

@@ -7,7 +7,7 @@ use Rattle.aom_machine_instructions.proofs.ReceiverHolding.{finds_words}
 use Rattle.aom_machine_instructions.proofs.words.store.Goals as goal
 
 pub set_field_word-requires-clause-lives : goal.set_field_word-requires-clause-lives
-set_field_word-requires-clause-lives c = finds_words c.requires.0 c.args.parts.now _ c.args.word c.requires.1 (λ ch fr ts s needs. needs.0)
+set_field_word-requires-clause-lives c = finds_words c.requires.0 c.args.parts.now _ c.args.word c.requires.1 (λ ch fr ts s needs. needs.1.0)
 
 pub returns : goal.returns
 returns c = λ refused.
