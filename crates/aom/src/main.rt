@@ -43,23 +43,17 @@ fn main(rt: HostRuntime) -> ExitCode {
     ExitCode::from(status.number())
 }
 
-/// Does what the words of the command line ask, and sends on all that is written. That this fails is a fault too.
-fn serve<W: Write + Drop, E: Sink>(
-    rt: &HostRuntime,
-    mut out: Output<W>,
-    errors: &mut E,
-) -> ExitStatus {
-    let (status, explain) = match given_words(rt) {
-        Ok(words) => {
-            let explain = asks_to_explain(&words);
-            (answer(rt, words, explain, &mut out, errors), explain)
-        }
-        Err(fault) => (refuse(rt, fault, false, errors), false),
+/// Does what the words of the command line ask.
+fn serve<W: Write + Drop, E: Sink>(rt: &HostRuntime, out: Output<W>, errors: &mut E) -> ExitStatus {
+    let words = match given_words(rt) {
+        Ok(words) => words,
+        Err(fault) => return refuse(rt, fault, false, errors),
     };
-    if out.fails_at_end() {
-        return report_or_explain(rt, &Fault::Write, explain, errors);
+    let explain = asks_to_explain(&words);
+    match read_words(rt.alloc(), words) {
+        Ok(words) => answer(rt, &words, explain, out, errors),
+        Err(fault) => refuse(rt, fault, explain, errors),
     }
-    status
 }
 
 /// Whether a fault is to be explained, also where the words are refused. Behind `--` stand names of files alone.
@@ -100,20 +94,44 @@ fn given_words(rt: &HostRuntime) -> Result<Vec<String>, WordsFault> {
     }
 }
 
-/// Does what the words ask.
-fn answer<W: Sink, E: Sink>(
+/// Does what the words ask, and sends on all that is written. That this fails is a fault too.
+fn answer<W: Write + Drop, E: Sink>(
     rt: &HostRuntime,
-    words: Vec<String>,
+    words: &Words,
     explain: bool,
-    out: &mut W,
+    mut out: Output<W>,
+    errors: &mut E,
+) -> ExitStatus
+    requires limit { KeepsLimit words.now }
+{
+    let status = match execute(rt, words, &mut out, errors) {
+        Ok(status) => status,
+        Err(unready) => report_read_error(rt, unready, explain, errors),
+    };
+    if out.fails_at_end() {
+        return report_unsent(rt, words, explain, errors);
+    }
+    status
+}
+
+/// Tells that the last of the output did not go out, as a fault that comes before is told.
+fn report_unsent<E: Sink>(
+    rt: &HostRuntime,
+    words: &Words,
+    explain: bool,
     errors: &mut E,
 ) -> ExitStatus {
-    match read_words(rt.alloc(), words) {
-        Ok(words) => match execute(rt, &words, out, errors) {
-            Ok(status) => status,
-            Err(unready) => report_read_error(rt, unready, explain, errors),
-        },
-        Err(fault) => refuse(rt, fault, explain, errors),
+    match words {
+        Words::Check {
+            image,
+            lines,
+            text,
+            ..
+        } if *lines => {
+            let file = text.as_ref().unwrap_or(image).as_bytes();
+            report_as_line(rt.alloc(), file, None, &Fault::Write, errors)
+        }
+        _ => report_or_explain(rt, &Fault::Write, explain, errors),
     }
 }
 

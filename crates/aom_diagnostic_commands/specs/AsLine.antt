@@ -54,15 +54,23 @@ IsLineOf image text fault line = line ≡ fault_place text fault
 abbrev pub line_at : (file : List ℕ) → Option ℕ → Fault → List ℕ
 line_at file place fault = as_line_text file place (fault_line fault) (texts_of fault).name
 
+-- a line is told, and behind it that there was no memory for another in its place
+pub record ReportedPlainly (reports : Sent → Type 0) (errors : Sent) : Type 0 where
+  -- the errors as they stood behind the line
+  pub line : Sent
+  pub begins : line.before ≡ errors.before
+  pub reported : reports line
+  pub memory : ReportsFault Memory (record { before = line.now; now = errors.now; failed = errors.failed })
+
 -- that line went out, or there was no memory for it, and the fault's own line did
 pub data ReportsAsLine (line : List ℕ) (reports : Sent → Type 0) (errors : Sent) : Type 0 where
   as_line : Says line errors → ReportsAsLine line reports errors
-  plainly : reports errors → ReportsAsLine line reports errors
+  plainly : ReportedPlainly reports errors → ReportsAsLine line reports errors
 
 -- a fault was told with a line in which it is, or there was no memory to find one, and its own line was
 pub data LinesFault (file : List ℕ) (is : Option ℕ → Type 0) (fault : Fault) (errors : Sent) : Type 0 where
   placed : (line : Option ℕ) → is line → ReportsAsLine (line_at file line fault) (ReportsFault fault) errors → LinesFault file is fault errors
-  unplaced : ReportsFault fault errors → LinesFault file is fault errors
+  unplaced : ReportedPlainly (ReportsFault fault) errors → LinesFault file is fault errors
 
 -- a command answers as it does where its fault is told by its own line, and tells it in another, with the file and the line of it
 pub data OneLineFault (answers : Sent → ExitStatus → Type 0) (file : List ℕ) (is : Fault → Option ℕ → Type 0) (errors : Sent) (status : ExitStatus) : Type 0 where

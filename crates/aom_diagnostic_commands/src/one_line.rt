@@ -8,7 +8,7 @@ ghost use Rattle.aom_commands.specs.Acceptable.{IsSerialized};
 ghost use Rattle.aom_commands.specs.Headline.{Says, ReportsFault};
 ghost use Rattle.aom_commands.specs.Status.{status_of};
 ghost use Rattle.aom_transcript.specs.Text.{ended};
-ghost use Rattle.aom_diagnostic_commands.specs.AsLine.{AnsweredOrAsLine, IsLineOf, LinesFault, LinesLink, LinesText, ReportsAsLine, fault_place, line_at, refusal_place};
+ghost use Rattle.aom_diagnostic_commands.specs.AsLine.{AnsweredOrAsLine, IsLineOf, LinesFault, LinesLink, LinesText, ReportedPlainly, ReportsAsLine, fault_place, line_at, refusal_place};
 
 use crate::explaining::entry_of;
 use crate::with_text::{ImageText, TextFault};
@@ -90,7 +90,17 @@ fn line_of(
     Ok(out.into_text())
 }
 
-/// Tells a fault in one line of a file, and answers its status. Where there is no memory for that line, the fault's own is told.
+/// Tells a fault by its own line, and behind it that there was no memory for another. Answers the fault's status.
+fn report_plainly<E: Sink>(fault: &Fault, errors: &mut E) -> ExitStatus
+    ensures status { result ≡ status_of fault.now }
+    ensures reported { ReportedPlainly (ReportsFault fault.now) (record { before = E.out errors.old; now = E.out errors.new; failed = E.failed errors.new }) }
+{
+    let status = report(fault, errors);
+    report(&Fault::Memory, errors);
+    status
+}
+
+/// Tells a fault in one line of a file, and answers its status. Where there is no memory for that line, the fault's own and `memory` are told.
 pub fn report_as_line<E: Sink>(
     alloc: Global,
     file: &[u8],
@@ -107,12 +117,12 @@ pub fn report_as_line<E: Sink>(
             write_text(errors, &line);
             fault.status()
         }
-        Err(_) => report(fault, errors),
+        Err(_) => report_plainly(fault, errors),
     }
 }
 
 /// Tells a fault in one line of the text that the image is of, and answers its status. Where there is no memory to find the line, the
-/// fault's own is told.
+/// fault's own and `memory` are told.
 fn report_placed<E: Sink>(
     alloc: Global,
     fault: &Fault,
@@ -126,7 +136,7 @@ fn report_placed<E: Sink>(
 {
     match line_of_fault(alloc, image, text, fault) {
         Ok(line) => report_as_line(alloc, file, line, fault, errors),
-        Err(_) => report(fault, errors),
+        Err(_) => report_plainly(fault, errors),
     }
 }
 
@@ -147,13 +157,21 @@ pub fn answer_as_line<E: Sink>(
     }
 }
 
+/// Tells that a text denotes another image by the word alone, and behind it that there was no memory for a line.
+fn report_other_plainly<E: Sink>(errors: &mut E)
+    ensures { ReportedPlainly (Says (ended (codes "text"))) (record { before = E.out errors.old; now = E.out errors.new; failed = E.failed errors.new }) }
+{
+    write_text(errors, b"text\n");
+    report(&Fault::Memory, errors);
+}
+
 /// Tells that a text denotes another image.
 fn line_other<E: Sink>(alloc: Global, file: &[u8], errors: &mut E)
     ensures { ReportsAsLine (as_line_text file.now None (codes "text") (word_texts Text).name) (Says (ended (codes "text"))) (record { before = E.out errors.old; now = E.out errors.new; failed = E.failed errors.new }) }
 {
     match line_of(alloc, file, None, b"text", &word_entry(Unnumbered::Text)) {
         Ok(line) => write_text(errors, &line),
-        Err(_) => write_text(errors, b"text\n"),
+        Err(_) => report_other_plainly(errors),
     }
 }
 
