@@ -1,16 +1,15 @@
 -- Items in an order, each with a number of its own: where each stands, and what an insertion and a removal leave.
 use Rattle.std.proofs.lemmas.Bool.Decides.{nat_tests}
-use Rattle.std.proofs.Common.{◌≡◌, ◌≢◌, ◌<◌, ◌≤◌, ◌+◌, ◌==◌, ℕ, zero, suc, Bool, true, false, not, cond, List, [], ◌∷◌, Some, None, length, take, get_or}
-use Rattle.std.proofs.Common.{refl, sym, ap, ◌∙◌, subst, inl, inr, arith, Option, ◌++◌}
+use Rattle.std.proofs.Common.{◌≡◌, ◌≢◌, ◌<◌, ◌≤◌, ◌+◌, ◌==◌, ℕ, zero, suc, Bool, true, false, not, List, [], ◌∷◌, Some, None, length, get_or}
+use Rattle.std.proofs.Common.{refl, sym, ap, ◌∙◌, subst, inl, inr, arith, Option}
 use Rattle.std.specs.Prelude.{All, AllPairs, insert, remove, option_map, map, IsSome, IsNone}
-use Rattle.std.proofs.lemmas.Bool.{cases_Bool, eqb-true, eq-eqb, eqb-false, ne_eqb, cases_eq, not-true, cond-true, cond-false}
+use Rattle.std.proofs.lemmas.Bool.{true≢false, cases_Bool, eqb-true, eq-eqb, eqb-false, ne_eqb, cases_eq, not-true, cond-true, cond-false}
 use Rattle.std.proofs.lemmas.List.Elements.{All-cons, All-head, All-tail, All-nil, All-weaker, All-filter, All-map, filter_passes}
 use Rattle.std.proofs.lemmas.List.Edits.{length-remove}
-use Rattle.std.proofs.lemmas.List.{get_or-map, length-map, length-take, length-take-le, take-append-drop}
+use Rattle.std.proofs.lemmas.List.{get_or-map, length-map}
 use Rattle.std.specs.List.Sorted.{IsPartitionPoint, IsPartitionedBy}
 use Rattle.std.proofs.lemmas.List.Kept.{AllPairs-cons, AllPairs-filter}
 use Rattle.aom_scheduler.specs.Order.{placed, without, place_of, IsOrdered}
-use Rattle.std.proofs.Math.Seq.{take-nil, take-append_seam}
 
 module _ {A : Type 0} where
   -- what an option holds that holds something
@@ -62,6 +61,28 @@ module _ {A : Type 0} (before : A → A → Bool) where
         | inr e ↦ subst (AllPairs R) (sym (cond-false _ _ _ e))
             (AllPairs-cons R x (y ∷ ys) (All-cons (R x) y ys (r.either y x e)
             (All-weaker (R y) (R x) (λ z h. r.chain x y z (r.either y x e) h) ys (pairs-head R y ys pairs))) pairs)
+      ]
+
+  -- pairs are related as before if the item is related to each other in the order in which the two stand then
+  pub pairs-placed_between : IsRanking → (R : A → A → Type 0) (x : A) (xs : List A) → All (λ y. before y x ≡ true → R y x) xs
+      → All (λ y. before y x ≡ false → R x y) xs → AllPairs (λ y z. before y z ≡ true) xs → AllPairs R xs → AllPairs R (placed before x xs)
+  pairs-placed_between r R x [] left right sorted pairs = AllPairs-cons R x [] (All-nil (R x)) pairs
+  pairs-placed_between r R x (y ∷ ys) left right sorted pairs =
+      let B : A → A → Type 0 = λ v z. before v z ≡ true in
+      elim (cases_Bool (before y x)) [
+        | inl e ↦ subst (AllPairs R) (sym (cond-true _ _ _ e))
+            (AllPairs-cons R y (placed before x ys) (All-placed (R y) x ys (All-head (λ z. before z x ≡ true → R z x) y ys left e) (pairs-head R y ys pairs))
+            (pairs-placed_between r R x ys (All-tail (λ z. before z x ≡ true → R z x) y ys left) (All-tail (λ z. before z x ≡ false → R x z) y ys right)
+            (pairs-tail B y ys sorted) (pairs-tail R y ys pairs)))
+        | inr e ↦ subst (AllPairs R) (sym (cond-false _ _ _ e)) (AllPairs-cons R x (y ∷ ys) (All-cons (R x) y ys
+            (All-head (λ z. before z x ≡ false → R x z) y ys right e) (λ k d within. behind (get_or ys k d) e (pairs-head B y ys sorted k d within)
+            (All-tail (λ z. before z x ≡ false → R x z) y ys right k d within))) pairs)
+      ]
+    where
+      behind : (z : A) → before y x ≡ false → before y z ≡ true → (before z x ≡ false → R x z) → R x z
+      behind z not_first first then = elim (cases_Bool (before z x)) [
+        | inl e ↦ absurd (true≢false (sym (r.chain y z x first e) ∙ not_first))
+        | inr e ↦ then e
       ]
 
   -- it is placed where all before may stand before it, and the next may not
@@ -173,31 +194,6 @@ module _ {A : Type 0} (number : A → ℕ) where
   without-at id _ _ distinct (in_tail x xs other at) = ap (λ ys. x ∷ ys) (without-at id xs _ (distinct-tail x xs distinct) at) ∙ sym (kept id x xs other)
 
 module _ {A : Type 0} (number : A → ℕ) where
-  -- a place in the first few items is one in all
-  at-take : (id : ℕ) (xs : List A) (i : ℕ) → IsAt number id xs i → IsAt number id (take (suc i) xs) i
-  at-take id _ _ (at_head x xs same) = at_head x [] same
-  at-take id _ _ (in_tail {i = i} x xs other at) = in_tail x (take (suc i) xs) other (at-take id xs i at)
-
-  at-longer : (id : ℕ) (xs more : List A) (i : ℕ) → IsAt number id xs i → IsAt number id (xs ++ more) i
-  at-longer id _ more _ (at_head x xs same) = at_head x (xs ++ more) same
-  at-longer id _ more _ (in_tail x xs other at) = in_tail x (xs ++ more) other (at-longer id xs more _ at)
-
-  pub at-from_take : (id : ℕ) (xs : List A) (n i : ℕ) → IsAt number id (take n xs) i → (i < n) × IsAt number id xs i
-  at-from_take id xs n i at = search (arith, nat_tests, at-within number id, length-take n xs, take-append-drop n xs, at-longer id)
-
-  -- one item more of another number
-  pub place-take_other : (id : ℕ) (xs : List A) (i : ℕ) (d : A) → number (get_or xs i d) ≢ id
-      → place_of number id (take (suc i) xs) ≡ place_of number id (take i xs)
-  place-take_other id [] i d other = ap (place_of number id) (sym (take-nil i))
-  place-take_other id (x ∷ xs) zero d other = place-later number id x [] other
-  place-take_other id (x ∷ xs) (suc i) d other = ap (λ o. cond (number x == id) (Some 0) (option_map suc o)) (place-take_other id xs i d other)
-
-  pub place-take_same : (xs : List A) (i : ℕ) (d : A) → AreDistinct number xs → i < length xs
-      → place_of number (number (get_or xs i d)) (take (suc i) xs) ≡ Some i
-  place-take_same xs i d distinct within =
-      let id = number (get_or xs i d) in
-      at-place number id (take (suc i) xs) i (at-take id xs i (own-place number xs i d distinct within))
-
   -- the items without one number are fewer by one at most
   length-without : (id : ℕ) (xs : List A) → AreDistinct number xs → length xs ≤ suc (length (without number id xs))
   length-without id xs distinct = by_found (place_of number id xs) (find_it number id xs)
@@ -242,12 +238,12 @@ module _ {A : Type 0} (before : A → A → Bool) where
     | inr e ↦ All-tail P x (y ∷ ys) (subst (All P) (cond-false (before y x) (y ∷ placed before x ys) (x ∷ y ∷ ys) e) all)
   ]
 
-module _ {A : Type 0} where
-  pub take-insert : (xs : List A) (i : ℕ) (x : A) → i ≤ length xs → take i (insert xs i x) ≡ take i xs
-  take-insert xs i x within = grind (arith, nat_tests, length-take-le i xs within, take-append_seam)
-
-  pub take-remove : (xs : List A) (i : ℕ) → i < length xs → take i (remove xs i) ≡ take i xs
-  take-remove xs i within = grind (arith, nat_tests, length-take-le i xs, take-append_seam)
+-- items that are changed are related as before if each two stay so
+pub pairs-map : {A : Type 0} (f : A → A) (R : A → A → Type 0) → ((x y : A) → R x y → R (f x) (f y)) → (xs : List A) → AllPairs R xs → AllPairs R (map f xs)
+pairs-map f R keeps xs pairs = λ i j d less within.
+    let inside : j < length xs = omega (arith, length-map xs f) in
+    subst (λ a. R a (get_or (map f xs) j d)) (sym (get_or-map f xs i d d (omega arith)))
+    (subst (λ b. R (f (get_or xs i d)) b) (sym (get_or-map f xs j d d inside)) (keeps (get_or xs i d) (get_or xs j d) (pairs i j d less inside)))
 
 module _ {A : Type 0} (number : A → ℕ) (before : A → A → Bool) where
   -- an order stays one with an item of a new number, and without any
@@ -274,15 +270,9 @@ module _ {A : Type 0} (number : A → ℕ) (before : A → A → Bool) where
   ordered-map f same_number same_standing limit xs o = record {
     below = All-map (λ x. number x < limit) f xs (All-weaker (λ x. number x < limit) (λ x. number (f x) < limit)
         (λ x h. subst (λ n. n < limit) (sym (same_number x)) h) xs o.below);
-    distinct = pairs-map (λ x y. number x ≢ number y) (λ x y differs same. differs (sym (same_number x) ∙ same ∙ same_number y)) o.distinct;
-    sorted = pairs-map (λ x y. before x y ≡ true) (λ x y h. same_standing x y ∙ h) o.sorted;
+    distinct = pairs-map f (λ x y. number x ≢ number y) (λ x y differs same. differs (sym (same_number x) ∙ same ∙ same_number y)) xs o.distinct;
+    sorted = pairs-map f (λ x y. before x y ≡ true) (λ x y h. same_standing x y ∙ h) xs o.sorted;
   }
-    where
-      pairs-map : (R : A → A → Type 0) → ((x y : A) → R x y → R (f x) (f y)) → AllPairs R xs → AllPairs R (map f xs)
-      pairs-map R keeps pairs = λ i j d less within.
-          let inside : j < length xs = omega (arith, length-map xs f) in
-          subst (λ a. R a (get_or (map f xs) j d)) (sym (get_or-map f xs i d d (omega arith)))
-          (subst (λ b. R (f (get_or xs i d)) b) (sym (get_or-map f xs j d d inside)) (keeps (get_or xs i d) (get_or xs j d) (pairs i j d less inside)))
 
 module _ {A : Type 0} (number : A → ℕ) where
   -- a walk to the item of a number: it ends, it goes on past others, and it ends there

@@ -1,5 +1,6 @@
 mod Items
 mod Places
+mod Keys
 mod Ready
 mod Picks
 mod Timing

@@ -10,7 +10,7 @@ use Rattle.std.proofs.lemmas.List.Elements.{All-filter, All-map, filter-append}
 use Rattle.std.specs.List.Sorted.{IsPartitionPoint, IsPartitionedBy}
 use Rattle.aom_scheduler.specs.Order.{placed, without, place_of}
 use Rattle.aom_scheduler.specs.PriorityList.{PriorityList, IsSound, before, marked, marked_entry, ready_ids, first_ready}
-use Rattle.aom_scheduler.specs.Places.{stands_before}
+use Rattle.aom_scheduler.specs.Keys.{stands_before}
 use Rattle.aom_scheduler.specs.declared.entry.ScheduleEntry.{ScheduleEntry}
 use Rattle.aom_scheduler.proofs.Items.{IsAt, AreDistinct, own-place, at-place, distinct-head, distinct-tail, few, at_head, in_tail}
 use Rattle.aom_scheduler.proofs.Places.{id_of, marked-absent}

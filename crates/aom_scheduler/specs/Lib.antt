@@ -1,6 +1,6 @@
 pub mod Order
 pub mod PriorityList
-pub mod Places
+pub mod Keys
 pub mod Ready
 pub mod Pending
 pub mod DueTimes

@@ -1,35 +1,45 @@
-//! The entries in order of choice, and where each object stands among them.
-ghost use Rattle.std.specs.Prelude.{◌≡◌, ◌<◌, ◌≤◌, ℕ, [], IfOk, None, IsNone, length, slice_get, slice_index_or, All, AllPairs, ◌≢◌, take, true, false};
+//! The entries in order of choice, and by what each object is found among them.
+//!
+//! An object's key never changes while it is enlisted, so an entry that comes or goes leaves all others as they are. A hint says where the
+//! object stood when it was last asked for; nothing rests on it, since the entry there is looked at.
+ghost use Rattle.std.specs.Prelude.{◌≡◌, ◌<◌, ◌≤◌, ℕ, [], IfOk, IfSome, None, Some, IsNone, length, slice_get, slice_index_or, slice_set, AllPairs, true, false, nat_lt, ◌&&◌, if◌then◌else◌};
 ghost use Rattle.std.specs.List.Sorted.{IsPartitionPoint};
 ghost use Rattle.aom_scheduler.specs.Order.{placed, without};
 ghost use Rattle.aom_scheduler.specs.PriorityList.{before, place, IsEnlisted, marked, IsSound};
-ghost use Rattle.aom_scheduler.specs.Places.{numbered, Knows, stands_before};
+ghost use Rattle.aom_scheduler.specs.Keys.{IsKeyed, precedes, stands_before};
 ghost use Rattle.aom_scheduler.specs.declared.entry.ScheduleEntry.{ScheduleEntry};
 
 use crate::ScheduleEntry;
+use crate::key::Key;
 use aom_cells::CellId;
 use std::alloc::{AllocError, Global};
+use std::collections::VecDeque;
 use std::marker::Model;
 
 /// Entries by falling priority, the first enlisted first among equals.
 #[derive(Drop)]
 pub struct Order {
-    entries: Vec<ScheduleEntry>,
-    /// Where each object stands, by its id.
-    places: Vec<Option<u16>>,
+    entries: VecDeque<ScheduleEntry>,
+    /// Each object's key, by its id.
+    keys: Vec<Option<Key>>,
+    /// Where each object may stand, by its id.
+    hints: Vec<u16>,
+    /// The turn of the next object that is enlisted.
+    next: u32,
 }
 
 impl Model for Order {
-    ghost use Rattle.std.specs.Prelude.{◌≤◌, length, vec_capacity};
+    ghost use Rattle.std.specs.Prelude.{◌≤◌, length};
+    ghost use Rattle.std.specs.VecDeque.{deque_capacity};
     ghost use Rattle.aom_scheduler.specs.PriorityList.{PriorityList};
 
     ghost Value = { PriorityList };
 
-    ghost view = { λ o. record { entries = o.entries.items; limit = length o.places.items } };
+    ghost view = { λ o. record { entries = o.entries.items; limit = length o.keys.items } };
 
-    ghost use Rattle.aom_scheduler.specs.Places.{IsIndexed};
+    ghost use Rattle.aom_scheduler.specs.Keys.{IsKeyed};
 
-    ghost invariant = { λ o. IsIndexed o.entries.items o.places.items × (length o.places.items ≤ 4096) × (length o.places.items ≤ vec_capacity o.entries) };
+    ghost invariant = { λ o. IsKeyed o.entries.items o.keys.items o.next × (length o.keys.items ≤ 4096) × (length o.keys.items ≤ deque_capacity o.entries) };
 }
 
 impl Order {
@@ -38,8 +48,10 @@ impl Order {
         ensures { IfOk result (λ o. o ≡ record { entries = []; limit = limit }) }
     {
         Ok(Order {
-            entries: Vec::with_capacity(alloc, limit)?,
-            places: vec![in alloc; None; limit]?,
+            entries: VecDeque::with_capacity(alloc, limit)?,
+            keys: vec![in alloc; None; limit]?,
+            hints: vec![in alloc; 0; limit]?,
+            next: 0,
         })
     }
 
@@ -47,7 +59,7 @@ impl Order {
         ensures value { result ≡ self.now.limit }
         ensures in_range { result ≤ 4096 }
     {
-        self.places.len()
+        self.keys.len()
     }
 
     pub fn count(&self) -> usize
@@ -72,8 +84,29 @@ impl Order {
     pub fn place(&self, id: CellId) -> Option<usize>
         ensures { result ≡ place id self.now }
     {
-        let place = self.places.get(id.number() as usize).copied()??;
-        Some(usize::from(place))
+        let hinted = self.hinted(id);
+        if hinted.is_some() {
+            return hinted;
+        }
+        let key = self.keys.get(id.number() as usize).copied()??;
+        let keys = &self.keys;
+        Some(
+            self.entries
+                .partition_point(|e| stands_first(keys, e.id, &key)),
+        )
+    }
+
+    /// Where the object stands, if it stands where it may.
+    fn hinted(&self, id: CellId) -> Option<usize>
+        ensures { IfSome result (λ at. place id self.now ≡ Some at) }
+    {
+        let hint = usize::from(self.hints.get(id.number() as usize).copied()?);
+        self.in_order();
+        if self.entry(hint)?.id == id {
+            Some(hint)
+        } else {
+            None
+        }
     }
 
     /// Whether the entry at this place is ready.
@@ -97,9 +130,13 @@ impl Order {
         requires unlisted { IsNone (place entry.id self.old) }
         ensures { self.new ≡ record self.old { entries = placed before entry self.old.entries } }
     {
+        let turn = next_turn(&mut self.keys, &self.entries, self.next);
         let at = place_for(&self.entries, &entry);
         self.entries.insert(at, entry).unwrap();
-        renumber(&mut self.places, &self.entries, at);
+        let slot = entry.id.number() as usize;
+        self.keys[slot] = Some(Key::of(&entry, turn));
+        self.next = turn + 1;
+        put_hint(&mut self.hints, slot, at);
     }
 
     pub fn remove(&mut self, id: CellId)
@@ -108,8 +145,7 @@ impl Order {
     {
         if let Some(at) = self.place(id) {
             self.entries.remove(at);
-            self.places[id.number() as usize] = None;
-            renumber(&mut self.places, &self.entries, at);
+            self.keys[id.number() as usize] = None;
         }
     }
 
@@ -119,30 +155,53 @@ impl Order {
     {
         if let Some(place) = self.place(id) {
             self.entries[place].is_ready = is_ready;
+            put_hint(&mut self.hints, id.number() as usize, place);
         }
     }
 }
 
 /// The place after all entries of at least this one's priority.
-fn place_for(entries: &[ScheduleEntry], entry: &ScheduleEntry) -> usize
-    requires { AllPairs (λ e f. before e f ≡ true) entries.now }
-    ensures bound { result ≤ length entries.now }
-    ensures point { IsPartitionPoint (λ e. before e entry.now ≡ true) (λ e. before e entry.now ≡ false) entries.now result }
+fn place_for(entries: &VecDeque<ScheduleEntry>, entry: &ScheduleEntry) -> usize
+    requires { AllPairs (λ e f. before e f ≡ true) entries.now.items }
+    ensures bound { result ≤ length entries.now.items }
+    ensures point { IsPartitionPoint (λ e. before e entry.now ≡ true) (λ e. before e entry.now ≡ false) entries.now.items result }
 {
     entries.partition_point(|e| e.priority >= entry.priority)
 }
 
-/// Writes anew where the entries from `from` on stand.
-fn renumber(places: &mut [Option<u16>], entries: &[ScheduleEntry], from: usize)
-    requires few { length entries.now ≤ 4096 }
-    requires below { All (λ e. e.id < length places.old) entries.now }
-    requires distinct { AllPairs (λ e f. e.id ≢ f.id) entries.now }
-    requires within { from ≤ length entries.now }
-    requires known { Knows places.old (take from entries.now) }
-    ensures numbered { (id : ℕ) → slice_index_or places.new id None ≡ numbered id entries.now places.old }
-    ensures length { length places.new ≡ length places.old }
+/// Whether the object has a key that stands before this one.
+fn stands_first(keys: &[Option<Key>], id: CellId, key: &Key) -> bool
+    ensures { result ≡ precedes (slice_index_or keys.now id None) (Some key.now) }
 {
-    for at in from..entries.len() {
-        places[entries[at].id.number() as usize] = Some(at as u16);
+    match keys.get(id.number() as usize).copied() {
+        Some(Some(own)) => own.goes_before(key),
+        _ => false,
+    }
+}
+
+/// The next turn that is free, which has another behind it. If there is none, all turns are given anew.
+fn next_turn(keys: &mut Vec<Option<Key>>, entries: &VecDeque<ScheduleEntry>, next: u32) -> u32
+    requires keyed { IsKeyed entries.now.items keys.old.items next }
+    requires few { length keys.old.items ≤ 4096 }
+    ensures keyed { IsKeyed entries.now.items keys.new.items result }
+    ensures behind { result < 4294967295 }
+    ensures length { length keys.new.items ≡ length keys.old.items }
+{
+    if next < u32::MAX {
+        return next;
+    }
+    for at in 0..entries.len() {
+        let entry = entries[at];
+        keys[entry.id.number() as usize] = Some(Key::of(&entry, at as u32));
+    }
+    entries.len() as u32
+}
+
+/// Writes where the object of that number stands now, if there is a place for it.
+fn put_hint(hints: &mut [u16], slot: usize, at: usize)
+    ensures { hints.new ≡ (if nat_lt slot (length hints.old) && nat_lt at 65536 then slice_set hints.old slot at else hints.old) }
+{
+    if slot < hints.len() && at < 65536 {
+        hints[slot] = at as u16;
     }
 }

@@ -1,14 +1,16 @@
 use Rattle.std.proofs.Common.{sym, subst, ap, ◌∙◌, arith}
-use Rattle.aom_scheduler.specs.Places.{IsIndexed}
+use Rattle.aom_scheduler.specs.Keys.{IsKeyed}
 use Rattle.aom_scheduler.specs.PriorityList.{marked}
 use Rattle.aom_scheduler.proofs.Items.{at-within}
-use Rattle.aom_scheduler.proofs.Places.{stands-in, marked-in, indexed-mark, same_priority_list, id_of}
+use Rattle.aom_scheduler.proofs.Places.{stands-in, marked-in, same_priority_list, id_of}
+use Rattle.aom_scheduler.proofs.Keys.{keyed-mark}
 use Rattle.aom_scheduler.proofs.order.Order.mark.Goals as goal
 
 pub index_mut-requires : goal.index_mut-requires
 index_mut-requires c =
-    let found = stands-in c.args.self.now c.self.inside.entries.items _ c.args.id c.in-Some.place c.place.result c.self.view_is c.place.ensures c.in-Some.is in
-    omega (arith, at-within id_of c.args.id c.self.inside.entries.items c.in-Some.place found)
+    let entries = c.self.inside.entries.items in
+    let found = stands-in c.args.self.now entries _ c.args.id c.in-Some.place c.place.result c.self.view_is c.place.ensures c.in-Some.is in
+    omega (arith, at-within id_of c.args.id entries c.in-Some.place found, c.self.inside.entries.ok.0)
 
 pub invariant_of-self : goal.invariant_of-self
 invariant_of-self c =
@@ -16,8 +18,8 @@ invariant_of-self c =
     let found = stands-in c.args.self.now entries _ c.args.id c.in-Some.place c.place.result c.self.view_is c.place.ensures c.in-Some.is in
     let is = marked-in entries c.args.id c.in-Some.place c.args.is_ready c.index_mut.result.now c.self.invariant.0.ordered.distinct found
     c.index_mut.ensures.value in (
-      subst (λ xs. IsIndexed xs c.self.inside.places.items) (sym is) (indexed-mark entries c.self.inside.places.items c.args.id c.args.is_ready
-          c.self.invariant.0),
+      subst (λ xs. IsKeyed xs c.self.inside.keys.items c.self.inside.next) (sym is) (keyed-mark entries c.self.inside.keys.items c.self.inside.next c.args.id
+          c.args.is_ready c.self.invariant.0),
       c.self.invariant.1,
       c.self.invariant.2,
     )
