@@ -39,8 +39,20 @@ impl Page {
         self.0.has_room(LONGEST)
     }
 
-    /// Adds a line of the transcript.
+    /// Adds a line of the transcript. The most frequent one is added where it comes up, the others by a function of their own.
+    #[inline(always)]
     pub fn add_line(&mut self, line: &Line)
+        requires { length self.old + 64 ≤ 4096 }
+        ensures { self.new ≡ self.old ++ ended (line_text line.now) }
+    {
+        match line {
+            Line::Gone(class) => self.add_gone(class.number()),
+            _ => self.add_seldom(line),
+        }
+    }
+
+    #[inline(never)]
+    fn add_seldom(&mut self, line: &Line)
         requires { length self.old + 64 ≤ 4096 }
         ensures { self.new ≡ self.old ++ ended (line_text line.now) }
     {
