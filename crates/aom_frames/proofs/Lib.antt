@@ -1,4 +1,4 @@
-mod Boxed
+mod Slotted
 mod Lists
 mod Slots
 mod There

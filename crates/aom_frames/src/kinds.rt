@@ -1,39 +1,40 @@
 //! What each of the tasks is.
-ghost use Rattle.std.specs.Prelude.{◌≡◌, ◌<◌, ◌+◌, [], ◌∷◌, length, slice_index_or};
+ghost use Rattle.std.specs.Prelude.{◌≡◌, ◌<◌, ◌+◌, [], ◌∷◌, IfOk, length, slice_index_or};
 ghost use Rattle.aom_frames.specs.declared.task.TaskKind.TheVariants.{Trapped};
 ghost use Rattle.aom_frames.specs.Slots.{first, rest};
 
 use crate::TaskKind;
+use std::alloc::{AllocError, Global};
 use std::marker::Model;
 
 /// The kinds of the tasks, the innermost last. What lies above is of tasks that are over.
 #[derive(Drop)]
 pub(crate) struct TaskKinds {
-    kinds: [TaskKind; 2048],
+    kinds: Vec<TaskKind>,
     count: usize,
 }
 
 impl Model for TaskKinds {
-    ghost use Rattle.std.specs.Prelude.{List, ◌≤◌};
+    ghost use Rattle.std.specs.Prelude.{List, ◌≡◌, ◌≤◌, length};
     ghost use Rattle.aom_frames.specs.declared.task.TaskKind.{TaskKind};
     ghost use Rattle.aom_frames.specs.declared.task.TaskKind.TheVariants.{Trapped};
     ghost use Rattle.aom_frames.specs.Slots.{down};
 
     ghost Value = { List TaskKind };
 
-    ghost view = { λ k. down Trapped k.kinds k.count };
+    ghost view = { λ k. down Trapped k.kinds.items k.count };
 
-    ghost invariant = { λ k. k.count ≤ 2048 };
+    ghost invariant = { λ k. (k.count ≤ 2048) × (length k.kinds.items ≡ 2048) };
 }
 
 impl TaskKinds {
-    pub(crate) fn new() -> TaskKinds
-        ensures { result ≡ [] }
+    pub(crate) fn new(alloc: Global) -> Result<TaskKinds, AllocError>
+        ensures { IfOk result (λ k. k ≡ []) }
     {
-        TaskKinds {
-            kinds: [TaskKind::Trapped; 2048],
+        Ok(TaskKinds {
+            kinds: vec![in alloc; TaskKind::Trapped; 2048]?,
             count: 0,
-        }
+        })
     }
 
     pub(crate) fn len(&self) -> usize

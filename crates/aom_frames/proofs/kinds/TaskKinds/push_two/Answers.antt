@@ -1,32 +1,34 @@
-use Rattle.std.proofs.Common.{◌≡◌, ◌<◌, ◌+◌, length, ap, sym, subst, ◌∙◌, slice_set, arith, rules}
+use Rattle.std.proofs.Common.{◌≡◌, ◌<◌, ◌+◌, length, ap, sym, subst, ◌∙◌, slice_set, arith}
 use Rattle.std.proofs.lemmas.List.{length-set}
 use Rattle.aom_frames.specs.Slots.{down}
 use Rattle.aom_frames.specs.declared.task.TaskKind.TheVariants.{Trapped}
 use Rattle.aom_frames.proofs.Slots.{pushed_now, seen}
 use Rattle.aom_frames.proofs.kinds.TaskKinds.push_two.Goals as goal
 
-pub bounds-self-inside-count : goal.bounds-self-inside-count
-bounds-self-inside-count c =
-    let many = seen Trapped c.self.inside.kinds _ _ c.self.view_is in
-    omega (arith, many, c.requires)
+pub index_mut-requires : goal.index_mut-requires
+index_mut-requires c =
+    let many = seen Trapped c.self.inside.kinds.items _ _ c.self.view_is in
+    omega (arith, many, c.requires, c.self.invariant.1, c.self.inside.kinds.ok.0)
 
-pub bounds-self-inside-count-2 : goal.bounds-self-inside-count-2
-bounds-self-inside-count-2 c =
-    let many = seen Trapped c.self.inside.kinds _ _ c.self.view_is in
-    omega (arith, many, c.requires)
+pub index_mut-requires-2 : goal.index_mut-requires-2
+index_mut-requires-2 c =
+    let many = seen Trapped c.self.inside.kinds.items _ _ c.self.view_is in
+    omega (arith, many, c.requires, c.self.invariant.1, c.self.inside.kinds.ok.0)
 
 pub invariant_of-self : goal.invariant_of-self
 invariant_of-self c =
-    let many = seen Trapped c.self.inside.kinds _ _ c.self.view_is in
-    omega (arith, many, c.requires)
+    let xs = c.self.inside.kinds.items in
+    let n = c.self.inside.count in
+    let many = seen Trapped xs _ _ c.self.view_is in
+    let long = length-set (slice_set xs n c.args.lower) (n + 1) c.args.upper ∙ length-set xs n c.args.lower in
+    (omega (arith, many, c.requires), omega (arith, long, c.self.invariant.1))
 
 pub returns : goal.returns
 returns c =
     let n = c.self.inside.count in
-    let xs = c.self.inside.kinds in
+    let xs = c.self.inside.kinds.items in
     let many = seen Trapped xs _ _ c.self.view_is in
-    let few : n + 1 < 2048 = omega (arith, many, c.requires) in
-    let within : n + 1 < length xs = search rules in
+    let within : n + 1 < length xs = omega (arith, many, c.requires, c.self.invariant.1) in
     let lower : n < length xs = omega (arith, within) in
     let upper = subst (λ k. n + 1 < k) (sym (length-set xs n c.args.lower)) within in
     let two : n + 2 ≡ n + 1 + 1 = omega arith in
