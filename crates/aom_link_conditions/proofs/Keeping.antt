@@ -1,15 +1,15 @@
 -- Which class keeps the method of a role for a class: the class itself, or the nearest above it.
 use Rattle.std.proofs.lemmas.Bool.Decides.{nat_tests}
-use Rattle.std.proofs.Common.{◌≡◌, ◌<◌, ◌≤◌, ℕ, length, zero, suc, true, false, Option, Some, None, IfSome, IsSome, cond, is_some, ap}
+use Rattle.std.proofs.Common.{◌≡◌, ◌<◌, ◌≤◌, ℕ, length, zero, suc, true, false, Option, Some, None, IfSome, IsSome, IsTrue, Bool, List, cond, is_some, slice_get, slice_index_or, ap, subst, sym, ◌∙◌, ◌↔◌}
 use Rattle.std.proofs.Common.{refl, arith}
 use Rattle.aom_link_conditions.proofs.ImageLemmas.{some_given}
-use Rattle.std.proofs.lemmas.Option.{slice_get_within}
+use Rattle.std.proofs.lemmas.Option.{slice_get-get_or, slice_get_within}
 use Rattle.aom_image.specs.Image.{Image}
 use Rattle.aom_image.specs.Views.{class_at}
 use Rattle.aom_image.specs.declared.method.Role.{Role}
 use Rattle.aom_roles.specs.Families.{HasNoParents, descends, parent_in, parent_of}
 use Rattle.aom_link_conditions.proofs.RolesLemmas.{child, fewer, itself, no_parent, none_below, parent_below}
-use Rattle.aom_link_conditions.specs.Roles.{keeper_in, keeper_of, own_role, role_by, role_of}
+use Rattle.aom_link_conditions.specs.Roles.{is_inherited, keeper_in, keeper_of, own_role, role_by, role_of}
 
 pub no_method : (o : Option ℕ) → is_some o ≡ false → o ≡ None
 no_method x none = grind arith
@@ -72,3 +72,50 @@ module _ (p : Image) where
     pub role_alone : HasNoParents p → (c : ℕ) → role_of p c r ≡ own_role p c r
     unfolding role_of
     role_alone none c = grind (arith, nat_tests, no_parent p none c, keeper_none c, keeper_own c)
+
+-- what a class has of a role: its own, or what its parent has
+module _ (p : Image) (c : ℕ) (r : Role) where
+  own_kept : (k : ℕ) → own_role p c r ≡ Some k → own_role p c r ≡ role_of p c r
+  unfolding role_of
+  own_kept k is = go (is_inherited r)
+    where
+      go : (b : Bool) → own_role p c r ≡ cond b (role_by p r (keeper_of p c r)) (own_role p c r)
+      go false = refl
+      go true = ap (role_by p r) (sym (keeper_own p r c k is))
+
+  pub role_found : (own : Option ℕ) → own ≡ own_role p c r → is_some own ≡ true → own ≡ role_of p c r
+  role_found None e none = absurd (cc)
+  role_found (Some k) e some = e ∙ own_kept k (sym e)
+
+  pub role_not_inherited : is_inherited r ≡ false → own_role p c r ≡ role_of p c r
+  unfolding role_of
+  role_not_inherited other = ap (λ b. cond b (role_by p r (keeper_of p c r)) (own_role p c r)) (sym other)
+
+  pub role_up : (e : ℕ) → own_role p c r ≡ None → is_inherited r ≡ true → parent_of p c ≡ Some e → role_of p e r ≡ role_of p c r
+  unfolding role_of
+  role_up e none so is = ap (λ b. cond b (role_by p r (keeper_of p e r)) (own_role p e r)) so ∙ ap (role_by p r) (sym (keeper_up p r c e none is))
+      ∙ ap (λ b. cond b (role_by p r (keeper_of p c r)) (own_role p c r)) (sym so)
+
+  pub role_nowhere : own_role p c r ≡ None → is_inherited r ≡ true → parent_of p c ≡ None → role_of p c r ≡ None
+  unfolding role_of
+  role_nowhere none so is = ap (λ b. cond b (role_by p r (keeper_of p c r)) (own_role p c r)) so ∙ ap (role_by p r) (keeper_none p r c none is)
+
+-- what a test of a class says, where it has a method itself, and where it has none
+pub kept_own : (p : Image) (c : ℕ) (r : Role) (own : Option ℕ) → own ≡ own_role p c r → is_some own ≡ true → IsTrue true ↔ IsSome (role_of p c r)
+kept_own p c r own e some = (λ _. rw (← role_found p c r own e some) some, λ _. refl)
+
+pub kept_above : (p : Image) (c d : ℕ) (r : Role) (flag : Bool) → own_role p c r ≡ None → is_inherited r ≡ true → parent_of p c ≡ Some d →
+    IsTrue flag ↔ IsSome (role_of p d r) → IsTrue flag ↔ IsSome (role_of p c r)
+kept_above p c d r flag none so is h = rw (role_up p c r d none so is) at h
+
+pub kept_nowhere : (p : Image) (c : ℕ) (r : Role) → own_role p c r ≡ None → is_inherited r ≡ true → parent_of p c ≡ None → IsTrue false ↔ IsSome (role_of p c r)
+kept_nowhere p c r none so is = rw (role_nowhere p c r none so is) (λ f. absurd (cc), λ f. absurd (cc))
+
+-- what is read of a table of such tests
+pub read_kept : (p : Image) (flags : List Bool) (d i : ℕ) (r : Role) → i ≡ d → d < length flags →
+    ((c : ℕ) → IfSome (slice_get flags c) (λ b. IsTrue b ↔ IsSome (role_of p c r))) → IsTrue (slice_index_or flags i false) ↔ IsSome (role_of p d r)
+read_kept p flags d i r same lt each =
+    let there : slice_get flags d ≡ Some (slice_index_or flags d false) = slice_get-get_or flags d false lt in
+    let here : IfSome (Some (slice_index_or flags d false)) (λ b. IsTrue b ↔ IsSome (role_of p d r)) =
+    subst (λ o. IfSome o (λ b. IsTrue b ↔ IsSome (role_of p d r))) there (each d) in
+    subst (λ j. IsTrue (slice_index_or flags j false) ↔ IsSome (role_of p d r)) (sym same) here

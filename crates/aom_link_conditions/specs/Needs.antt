@@ -1,5 +1,5 @@
 -- Which methods a class needs, and which it may have once.
-use Rattle.std.specs.Prelude.{◌≡◌, ◌≤◌, ◌<◌, ℕ, List, length, Option, Some, None, IfSome, IsSome, IsTrue, slice_get, take, count_by}
+use Rattle.std.specs.Prelude.{◌≡◌, ◌≤◌, ◌<◌, ◌↔◌, ℕ, Bool, List, length, Option, Some, None, IfSome, IsSome, IsTrue, slice_get, take, count_by}
 use Rattle.aom_image.specs.Image.{Image}
 use Rattle.aom_image.specs.Views.{class_at}
 use Rattle.aom_image.specs.declared.class.ClassDecl.{ClassDecl}
@@ -8,11 +8,23 @@ use Rattle.aom_image.specs.declared.class.ClassKind.TheVariants as kinds
 use Rattle.aom_image.specs.declared.method.Method.{Method}
 use Rattle.aom_image.specs.declared.method.Role.{Role}
 use Rattle.aom_image.specs.declared.method.Role.TheVariants.{Construct, Destruct, Run, Cancel, Error, Accept, Service}
+use Rattle.aom_link_conditions.specs.declared.kept.Kept.{Kept}
 use Rattle.aom_link_conditions.specs.Roles.{own_role, role_of, fills_role, is_main}
 
 -- a class has a method with that role
 abbrev pub Has : Image → ℕ → Role → Type 0
 Has p c r = IsSome (role_of p c r)
+
+-- which classes have a method with that role, in a table
+pub record AreKept (p : Image) (r : Role) (flags : List Bool) : Type 0 where
+  pub size : length flags ≡ 256
+  pub each : (c : ℕ) → IfSome (slice_get flags c) (λ b. IsTrue b ↔ Has p c r)
+
+-- the tables of an image
+pub record IsKept (p : Image) (k : Kept) : Type 0 where
+  pub runs : AreKept p Run k.runs.items
+  pub cancels : AreKept p Cancel k.cancels.items
+  pub destructs : AreKept p Destruct k.destructs.items
 
 -- the methods of an active class
 pub record HasActive (p : Image) (c : ℕ) : Type 0 where

@@ -11,6 +11,7 @@ mod conditions;
 mod families;
 mod fault;
 mod jumps;
+mod kept;
 mod loops;
 mod needs;
 mod orders;

@@ -1,9 +1,10 @@
 //! Which methods a class needs, and which it may have once.
 ghost use Rattle.std.specs.Prelude.{◌≡◌, ◌≤◌, ◌<◌, ◌↔◌, IsTrue, length, count_by};
 ghost use Rattle.aom_link_conditions.specs.Roles.{fills_role, is_main};
-ghost use Rattle.aom_link_conditions.specs.Needs.{Has, HasActive, KindNeeds, EmptiesMore, NeedsMet, AllNeedsMet, AtMostOne, ClassSingle, EachSingle, SecondMain, RolesSingle};
+ghost use Rattle.aom_link_conditions.specs.Needs.{Has, HasActive, IsKept, KindNeeds, EmptiesMore, NeedsMet, AllNeedsMet, AtMostOne, ClassSingle, EachSingle, SecondMain, RolesSingle};
 ghost use Rattle.aom_roles.specs.Firsts.{FirstOf};
 
+use crate::kept::{Kept, is_kept};
 use crate::roles::{fills_role, find_role, is_main, own_role};
 use aom_image::{ClassDecl, ClassKind, ClassNumber, Image, Method, Role};
 
@@ -39,30 +40,31 @@ fn empties_more(image: &Image, class: ClassNumber, decl: &ClassDecl) -> bool
     }
 }
 
-fn has_active(image: &Image, class: ClassNumber) -> bool
+fn has_active(image: &Image, kept: &Kept, class: ClassNumber) -> bool
+    requires { IsKept image.now kept.now }
     ensures { IsTrue result ↔ HasActive image.now class }
 {
-    has_role(image, class, Role::Run)
-        && has_role(image, class, Role::Cancel)
-        && has_role(image, class, Role::Destruct)
+    is_kept(&kept.runs, class) && is_kept(&kept.cancels, class) && is_kept(&kept.destructs, class)
 }
 
-fn meets_kind(image: &Image, class: ClassNumber, kind: ClassKind) -> bool
+fn meets_kind(image: &Image, kept: &Kept, class: ClassNumber, kind: ClassKind) -> bool
+    requires { IsKept image.now kept.now }
     ensures { IsTrue result ↔ KindNeeds image.now class kind }
 {
     match kind {
         ClassKind::Plain => true,
-        ClassKind::Active { .. } => has_active(image, class),
+        ClassKind::Active { .. } => has_active(image, kept, class),
         ClassKind::Server { .. } => has_role(image, class, Role::Accept),
         ClassKind::Session => has_role(image, class, Role::Service),
     }
 }
 
-fn meets_needs(image: &Image, class: ClassNumber, decl: &ClassDecl) -> bool
+fn meets_needs(image: &Image, kept: &Kept, class: ClassNumber, decl: &ClassDecl) -> bool
+    requires { IsKept image.now kept.now }
     ensures { IsTrue result ↔ NeedsMet image.now class decl.now }
 {
-    meets_kind(image, class, decl.kind)
-        && (decl.fields.is_empty() || has_role(image, class, Role::Destruct))
+    meets_kind(image, kept, class, decl.kind)
+        && (decl.fields.is_empty() || is_kept(&kept.destructs, class))
         && empties_more(image, class, decl)
 }
 
@@ -71,8 +73,9 @@ pub fn first_missing_role(image: &Image, classes: &[ClassDecl]) -> Option<usize>
     requires { length classes.now ≤ 256 }
     ensures { FirstOf (NeedsMet image.now) classes.now result }
 {
+    let kept = Kept::of_image(image);
     for (class, decl) in classes.iter().enumerate() {
-        if !meets_needs(image, class_number(class), decl) {
+        if !meets_needs(image, &kept, class_number(class), decl) {
             return Some(class);
         }
     }

@@ -7,10 +7,10 @@ use Rattle.aom_image.specs.declared.method.Role.{Role}
 use Rattle.aom_roles.specs.Families.{parent_of}
 use Rattle.aom_link_conditions.specs.Chains.{AreOverriders, number_or_none}
 use Rattle.aom_link_conditions.specs.Overriding.{body_by, body_of, overrider_of}
-use Rattle.aom_link_conditions.specs.Roles.{is_inherited, keeper_of, own_role, role_by, role_of}
+use Rattle.aom_link_conditions.specs.Roles.{is_inherited, own_role, role_of}
 use Rattle.aom_linker.specs.Bodies.{IsRowOf, body_above}
 use Rattle.aom_linker.specs.Table.{role_from}
-use Rattle.aom_linker.proofs.LinkConditionsLemmas.{keeper_none, keeper_own, keeper_up, overrider_there, within}
+use Rattle.aom_linker.proofs.LinkConditionsLemmas.{overrider_there, role_nowhere, role_up, within}
 use Rattle.aom_linker.proofs.Nearest.{by_parent}
 
 pub some_there : {X : Type 0} (xs : List X) (k : ℕ) → k < length xs → IsSome (slice_get xs k)
@@ -44,31 +44,9 @@ row_more p c i table read m above body own same is up lt few so =
 
 -- ---- roles
 
-pub no_own : (o : Option ℕ) → is_some o ≡ false → o ≡ None
-no_own None e = refl
-no_own (Some k) e = absurd (cc)
-
-module _ (p : Image) (c : ℕ) (r : Role) where
-  role_own : (k : ℕ) → own_role p c r ≡ Some k → own_role p c r ≡ role_of p c r
-  unfolding role_of
-  role_own k is = go (is_inherited r)
-    where
-      go : (b : Bool) → own_role p c r ≡ cond b (role_by p r (keeper_of p c r)) (own_role p c r)
-      go false = refl
-      go true = ap (role_by p r) (sym (keeper_own p r c k is))
-
-  pub role_found : (own : Option ℕ) → own ≡ own_role p c r → is_some own ≡ true → own ≡ role_of p c r
-  role_found None e none = absurd (cc)
-  role_found (Some k) e some = e ∙ role_own k (sym e)
-
-  pub role_alone_own : is_inherited r ≡ false → own_role p c r ≡ role_of p c r
-  unfolding role_of
-  role_alone_own not_so = ap (λ b. cond b (role_by p r (keeper_of p c r)) (own_role p c r)) (sym not_so)
-
-  pub role_up : own_role p c r ≡ None → is_inherited r ≡ true → role_from p r (parent_of p c) ≡ role_of p c r
-  unfolding role_of
-  role_up none so = go (parent_of p c) refl ∙ ap (λ b. cond b (role_by p r (keeper_of p c r)) (own_role p c r)) (sym so)
-    where
-      go : (o : Option ℕ) → parent_of p c ≡ o → role_from p r o ≡ role_by p r (keeper_of p c r)
-      go None e = ap (role_by p r) (sym (keeper_none p r c none e))
-      go (Some d) e = ap (λ b. cond b (role_by p r (keeper_of p d r)) (own_role p d r)) so ∙ ap (role_by p r) (sym (keeper_up p r c d none e))
+pub role_above : (p : Image) (c : ℕ) (r : Role) → own_role p c r ≡ None → is_inherited r ≡ true → role_from p r (parent_of p c) ≡ role_of p c r
+role_above p c r none so = go (parent_of p c) refl
+  where
+    go : (o : Option ℕ) → parent_of p c ≡ o → role_from p r o ≡ role_of p c r
+    go None e = sym (role_nowhere p c r none so e)
+    go (Some d) e = role_up p c r d none so e

@@ -1,6 +1,7 @@
 -- A class's own, or what its parent has.
 use Rattle.std.proofs.Common.{◌∙◌, sym}
-use Rattle.aom_linker.proofs.Standing.{no_own, role_alone_own, role_found, role_up}
+use Rattle.aom_linker.proofs.LinkConditionsLemmas.{no_method, role_found, role_not_inherited}
+use Rattle.aom_linker.proofs.Standing.{role_above}
 use Rattle.aom_linker.proofs.role_table.role_in.Goals as goal
 use Rattle.aom_linker.proofs.role_table.role_in.Goals.{then-is_some-via-then-is_some, then-is_some-via-else-is_some+then-not-is_inherited}
 
@@ -10,11 +11,11 @@ returns-then-is_some c =
     elim c.then-is_some.branch [
       | then-is_some-via-then-is_some w ↦ role_found p c.args.class c.args.role _ c.own_role-own.ensures (sym c.is_some.ensures ∙ w.if-is_some.true)
       | then-is_some-via-else-is_some+then-not-is_inherited w ↦
-          c.own_role-own.ensures ∙ role_alone_own p c.args.class c.args.role (sym w.is_inherited.ensures ∙ w.if-not-is_inherited.true)
+          c.own_role-own.ensures ∙ role_not_inherited p c.args.class c.args.role (sym w.is_inherited.ensures ∙ w.if-not-is_inherited.true)
     ]
 
 pub returns : goal.returns
 returns c =
     let p = c.args.image.now in
-    c.role_above.ensures ∙ role_up p c.args.class c.args.role (sym c.own_role-own.ensures ∙ no_own _ (sym c.is_some.ensures ∙ c.if-is_some.false))
+    c.role_above.ensures ∙ role_above p c.args.class c.args.role (sym c.own_role-own.ensures ∙ no_method _ (sym c.is_some.ensures ∙ c.if-is_some.false))
     (sym c.is_inherited.ensures ∙ c.if-not-is_inherited.false)
