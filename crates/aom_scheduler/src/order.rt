@@ -81,6 +81,7 @@ impl Order {
         self.entries.get(place).copied()
     }
 
+    #[inline(always)]
     pub fn place(&self, id: CellId) -> Option<usize>
         ensures { result ≡ place id self.now }
     {
@@ -88,6 +89,14 @@ impl Order {
         if hinted.is_some() {
             return hinted;
         }
+        self.sought(id)
+    }
+
+    /// The place by a search.
+    #[inline(never)]
+    fn sought(&self, id: CellId) -> Option<usize>
+        ensures { result ≡ place id self.now }
+    {
         let key = self.keys.get(id.number() as usize).copied()??;
         let keys = &self.keys;
         Some(
@@ -97,6 +106,7 @@ impl Order {
     }
 
     /// Where the object stands, if it stands where it may.
+    #[inline(always)]
     fn hinted(&self, id: CellId) -> Option<usize>
         ensures { IfSome result (λ at. place id self.now ≡ Some at) }
     {
@@ -149,14 +159,13 @@ impl Order {
         }
     }
 
-    pub fn mark(&mut self, id: CellId, is_ready: bool)
-        requires { IsEnlisted id self.old }
+    /// Marks the entry of an object, which stands at this place.
+    pub fn mark(&mut self, id: CellId, at: usize, is_ready: bool)
+        requires { place id self.old ≡ Some at }
         ensures { self.new ≡ record self.old { entries = marked id is_ready self.old.entries } }
     {
-        if let Some(place) = self.place(id) {
-            self.entries[place].is_ready = is_ready;
-            put_hint(&mut self.hints, id.number() as usize, place);
-        }
+        self.entries[at].is_ready = is_ready;
+        put_hint(&mut self.hints, id.number() as usize, at);
     }
 }
 

@@ -1,5 +1,5 @@
 //! The objects that are enlisted, and the pick among those that are ready.
-ghost use Rattle.std.specs.Prelude.{◌≡◌, ◌<◌, ◌≤◌, [], true, false, IfOk, IfErr, IfSome, IsNone, insert, length, is_some, remove, slice_get, take, All};
+ghost use Rattle.std.specs.Prelude.{◌≡◌, ◌<◌, ◌≤◌, [], true, false, IfOk, IfErr, IfSome, IsNone, Some, insert, length, is_some, remove, slice_get, take, All};
 ghost use Rattle.std.specs.VecDeque.{deque_capacity};
 ghost use Rattle.aom_scheduler.specs.Order.{placed, without};
 ghost use Rattle.aom_scheduler.specs.Ready.{IsReadyAt, IsWaitingAt};
@@ -102,8 +102,9 @@ impl Schedule {
         requires { IsEnlisted id self.old }
         ensures { self.new ≡ record self.old { entries = marked id true self.old.entries } }
     {
-        if let Err(at) = self.ready_place(id) {
-            self.order.mark(id, true);
+        let place = self.order.place(id).unwrap();
+        if let Err(at) = self.ready_place(id, place) {
+            self.order.mark(id, place, true);
             put_at(&mut self.ready, at, id);
         }
     }
@@ -113,8 +114,9 @@ impl Schedule {
         requires { IsEnlisted id self.old }
         ensures { self.new ≡ record self.old { entries = marked id false self.old.entries } }
     {
-        if let Ok(at) = self.ready_place(id) {
-            self.order.mark(id, false);
+        let place = self.order.place(id).unwrap();
+        if let Ok(at) = self.ready_place(id, place) {
+            self.order.mark(id, place, false);
             take_at(&mut self.ready, at);
         }
     }
@@ -145,16 +147,15 @@ impl Schedule {
             .partition_point(|other| self.order.is_before(*other, place))
     }
 
-    /// Where the object stands among those that are ready, or else where it would.
-    fn ready_place(&self, id: CellId) -> Result<usize, usize>
-        requires { IsEnlisted id self.now }
+    /// Where the object of that place stands among those that are ready, or else where it would.
+    fn ready_place(&self, id: CellId, at_place: usize) -> Result<usize, usize>
+        requires { place id self.now ≡ Some at_place }
         ensures ready { IfOk result (λ at. IsReadyAt self.now id at) }
         ensures waiting { IfErr result (λ at. IsWaitingAt self.now id at) }
     {
         self.order.in_order();
-        let place = self.order.place(id).unwrap();
-        let at = self.ready_before(place);
-        if self.order.is_ready(place) {
+        let at = self.ready_before(at_place);
+        if self.order.is_ready(at_place) {
             Ok(at)
         } else {
             Err(at)

@@ -1,22 +1,22 @@
 use Rattle.std.proofs.Common.{sym, subst, ap, ◌∙◌, arith}
 use Rattle.aom_scheduler.specs.Keys.{IsKeyed}
-use Rattle.aom_scheduler.specs.PriorityList.{marked}
-use Rattle.aom_scheduler.proofs.Items.{at-within}
-use Rattle.aom_scheduler.proofs.Places.{stands-in, marked-in, same_priority_list, id_of}
+use Rattle.aom_scheduler.specs.PriorityList.{place, marked}
+use Rattle.aom_scheduler.proofs.Items.{at-within, place-at}
+use Rattle.aom_scheduler.proofs.Places.{marked-in, same_priority_list, id_of}
 use Rattle.aom_scheduler.proofs.Keys.{keyed-mark}
 use Rattle.aom_scheduler.proofs.order.Order.mark.Goals as goal
 
 pub index_mut-requires : goal.index_mut-requires
 index_mut-requires c =
     let entries = c.self.inside.entries.items in
-    let found = stands-in c.args.self.now entries _ c.args.id c.in-Some.place c.place.result c.self.view_is c.place.ensures c.in-Some.is in
-    omega (arith, at-within id_of c.args.id entries c.in-Some.place found, c.self.inside.entries.ok.0)
+    let found = place-at id_of c.args.id entries c.args.at (ap (place c.args.id) c.self.view_is ∙ c.requires) in
+    omega (arith, at-within id_of c.args.id entries c.args.at found, c.self.inside.entries.ok.0)
 
 pub invariant_of-self : goal.invariant_of-self
 invariant_of-self c =
     let entries = c.self.inside.entries.items in
-    let found = stands-in c.args.self.now entries _ c.args.id c.in-Some.place c.place.result c.self.view_is c.place.ensures c.in-Some.is in
-    let is = marked-in entries c.args.id c.in-Some.place c.args.is_ready c.index_mut.result.now c.self.invariant.0.ordered.distinct found
+    let found = place-at id_of c.args.id entries c.args.at (ap (place c.args.id) c.self.view_is ∙ c.requires) in
+    let is = marked-in entries c.args.id c.args.at c.args.is_ready c.index_mut.result.now c.self.invariant.0.ordered.distinct found
     c.index_mut.ensures.value in (
       subst (λ xs. IsKeyed xs c.self.inside.keys.items c.self.inside.next) (sym is) (keyed-mark entries c.self.inside.keys.items c.self.inside.next c.args.id
           c.args.is_ready c.self.invariant.0),
@@ -24,10 +24,10 @@ invariant_of-self c =
       c.self.invariant.2,
     )
 
-pub returns-in-Some : goal.returns-in-Some
-returns-in-Some c =
+pub returns : goal.returns
+returns c =
     let entries = c.self.inside.entries.items in
-    let found = stands-in c.args.self.now entries _ c.args.id c.in-Some.place c.place.result c.self.view_is c.place.ensures c.in-Some.is in
-    let is = marked-in entries c.args.id c.in-Some.place c.args.is_ready c.index_mut.result.now c.self.invariant.0.ordered.distinct found
+    let found = place-at id_of c.args.id entries c.args.at (ap (place c.args.id) c.self.view_is ∙ c.requires) in
+    let is = marked-in entries c.args.id c.args.at c.args.is_ready c.index_mut.result.now c.self.invariant.0.ordered.distinct found
     c.index_mut.ensures.value in
     same_priority_list _ _ _ _ (is ∙ ap (λ r. marked c.args.id c.args.is_ready r.entries) c.self.view_is) (ap (λ r. r.limit) c.self.view_is)

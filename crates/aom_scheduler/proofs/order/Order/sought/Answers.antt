@@ -3,7 +3,7 @@ use Rattle.std.proofs.lemmas.List.Sorted.{IsPartitionPoint-from_clause}
 use Rattle.aom_scheduler.specs.PriorityList.{place}
 use Rattle.aom_scheduler.specs.Keys.{precedes}
 use Rattle.aom_scheduler.proofs.Keys.{place-by_key}
-use Rattle.aom_scheduler.proofs.order.Order.place.Goals as goal
+use Rattle.aom_scheduler.proofs.order.Order.sought.Goals as goal
 
 pub returns : goal.returns
 returns c =
