@@ -1,5 +1,5 @@
 -- What stands in rows: for each method what a call of it runs on a class, and for each role the method of a class.
-use Rattle.std.proofs.Common.{arith, ◌≡◌, ◌<◌, ◌≤◌, ◌∙◌, ◌∷◌, [], ℕ, zero, suc, Bool, false, true, List, Option, Some, None, IfSome, IsSome, cond, is_some, length, slice_get, slice_index_or, ap, refl, subst, sym}
+use Rattle.std.proofs.Common.{arith, ◌≡◌, ◌<◌, ◌≤◌, ◌∙◌, ◌∷◌, [], ℕ, zero, suc, true, List, Option, Some, None, IfSome, IsSome, length, slice_get, slice_index_or, ap, refl, subst, sym}
 use Rattle.std.proofs.lemmas.Option.{slice_get-get_or}
 use Rattle.aom_image.specs.Image.{Image}
 use Rattle.aom_image.specs.Views.{method_at}
