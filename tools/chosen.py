@@ -1,6 +1,7 @@
 """One program with many edits, of which one is chosen as it begins: beside each function that edits turn stands a copy of it for each of them, and the
 function begins by asking whether one of these is chosen. Nothing of it is proved."""
 
+import os
 import re
 from dataclasses import dataclass
 
@@ -128,17 +129,11 @@ class Chosen:
         asking = {crate for crate, _ in self.taken.values()}
         for crate in sorted(asking):
             folder = self.house.folder(crate)
-            root = next(it for it in ROOTS if f"{folder}/{it}" and self.has(crate, it))
+            root = next(it for it in ROOTS if os.path.isfile(f"{folder}/{it}"))
             paths = dict.fromkeys([path for one, path in self.inserted if one == crate] + [root])
             for path in paths:
                 text, lines = self.with_copies(crate, path)
                 yield crate, path, text + QUESTION if path == root else text, lines
-
-    def has(self, crate, path):
-        try:
-            return bool(read_text(f"{self.house.folder(crate)}/{path}"))
-        except OSError:
-            return False
 
     def with_copies(self, crate, path):
         """A file's text with all that is inserted, and of which edit each line of it is."""
@@ -161,7 +156,7 @@ def answering(lines):
     wide = "" if kind == "i1" else f"  %wide = zext i1 %same to {kind}\n"
     return [
         head,
-        "  %chosen = load volatile i32, ptr getelementptr (i8, ptr @edit_chosen, i64 " + f"{len(MARK)})\n",
+        f"  %chosen = load volatile i32, ptr getelementptr (i8, ptr @edit_chosen, i64 {len(MARK)})\n",
         f"  %same = icmp eq i32 %chosen, {number or '%number'}\n",
         wide,
         f"  ret {kind} {'%wide' if wide else '%same'}\n",
