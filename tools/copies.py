@@ -124,6 +124,15 @@ def has_laws_apart(folder):
     return os.path.isfile(path) and not re.search(r"\S", LINES.sub("", read_text(path)))
 
 
+def is_closed_case(folder, function):
+    """Whether a law is a closed case: its statement is of the crate's definitions of cases, `specs/Cases`, and has no variables."""
+    path, law = f"{folder}/{LAWS}", function.removeprefix("laws::")
+    text = read_text(path) if os.path.isfile(path) else ""
+    stated = re.search(rf"(?m)^pub fn {law}\(\)\n((?:    .+\n)*)\{{\}}$", text)
+    cases = {name for it in USE.finditer(text) if ".specs.Cases." in f"{it[1]}." for name in re.findall(r"\w+", it[2])}
+    return bool(stated) and function != law and not cases.isdisjoint(re.findall(r"\w+", stated[1]))
+
+
 def copies_of(crate, folder, edits, places):
     """The edits of definitions that can be tried by copies, as each is shown by one law."""
     if not has_laws_apart(folder):

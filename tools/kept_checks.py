@@ -15,6 +15,14 @@ TOOLS = ("kept_checks.py", "quick_rt.py")
 MOST, SPARE = 20 * 10**9, 10 * 10**9
 
 
+def kit_version():
+    """What the toolchain says that it is. Where it says nothing, nothing can be kept by it, and all ends."""
+    said = subprocess.run(["rt", "version"], stdin=subprocess.DEVNULL, stdout=subprocess.PIPE, check=False)
+    if said.returncode or not said.stdout.strip():
+        raise SystemExit(f"'rt version' says nothing (status {said.returncode}): the toolchain is not there, or not whole, so nothing is tried")
+    return said.stdout
+
+
 def files_below(path):
     """The files at a path, with their names below it."""
     if os.path.isfile(path):
@@ -73,8 +81,7 @@ class KeptChecks:
     def __init__(self, at):
         self.at, self.libraries = f"{at}/checks", {}
         here = os.path.dirname(os.path.realpath(__file__))
-        kit = subprocess.run(["rt", "version"], stdin=subprocess.DEVNULL, stdout=subprocess.PIPE, check=False).stdout
-        self.tools = kit.decode(), sum_of(*(f"{here}/{it}" for it in TOOLS))[0]
+        self.tools = kit_version().decode(), sum_of(*(f"{here}/{it}" for it in TOOLS))[0]
 
     def library_sum(self, crate):
         """The sum of the library that a proved crate is."""

@@ -1,5 +1,5 @@
 """The test of the gate's own tools: a small repository of which one crate is false, and whose edits are known to be refused, or must not pass;
-and of what is kept of its proofs."""
+of what is kept of its proofs and of its verdicts; and of the trial of pages."""
 
 import os
 import re
@@ -7,14 +7,17 @@ import shutil
 
 from edit_files import write_text
 from freshness import PROGRAM, is_fresh, texts_sum, write_record
+from house import House
 from proving import Proofs, prove_and_try
 from quick_rt import keeps_proofs
-from showing import ANSWER, GOAL, NAME
+from selftest_shown import shown_is_well
+from showing import FALSE as FALSE_AT, LOST
+from verdicts import Verdicts
 
 SAMPLE = """//! A small crate on which the trial of edits is tried.
 #![tactic(auto)]
 
-ghost use Rattle.std.specs.Prelude.{◌≡◌, ◌≤◌, ◌*◌};
+ghost use Rattle.std.specs.Prelude.{◌≡◌, ◌≤◌, ◌<◌, ◌+◌, ◌*◌, length, slice_index};
 
 /// The double of a number.
 pub fn double(number: u8) -> u16
@@ -57,6 +60,16 @@ pub fn again(number: u8) -> u16
 {
     let once = number as u16;
     once
+}
+
+/// The sum of two bytes beside each other.
+pub fn pair(items: &[u8], at: usize) -> u16
+    requires { at + 1 < length items.now }
+    ensures { result ≡ slice_index items.now at + slice_index items.now (at + 1) }
+{
+    let one = items[at] as u16;
+    let other = items[at + 1] as u16;
+    one + other
 }
 """
 # answers by hand, of which one names a call
@@ -125,32 +138,41 @@ FILES = {
     "crates/stated/must-fail/where.md": WHERE,
     "crates/false_one/src/lib.rt": FALSE,
 }
+# a count without an invariant, and one without a measure
+BY_A_COUNT = "let mut total = 0; for _ in 0..2 { total += number as u16; } total"
+BY_A_WHILE = "let mut total = 0; let mut count = 0; while count < 2 { total += number as u16; count += 1; } total"
 CODE, DEFINITIONS = "src/lib.rt", "specs/Amounts.antt"
 # an edit's crate, name and file, the text that it takes away, the text in its place, and by what it is refused, if it is
 EDITS = [
-    ("sample", "double-is-threefold", CODE, "number as u16 * 2", "number as u16 * 3", GOAL),
-    ("sample", "threefold-is-double", CODE, "double(number) + number as u16", "double(number)", GOAL),
+    ("sample", "double-is-threefold", CODE, "number as u16 * 2", "number as u16 * 3", FALSE_AT),
+    ("sample", "threefold-is-double", CODE, "double(number) + number as u16", "double(number)", FALSE_AT),
     # beside another that it calls, and that is refused
     ("sample", "fourfold-in-other-words", CODE, "double(number) + double(number)", "double(number) * 2", ""),
     ("sample", "harmless", CODE, "number / 2", "number / 4", ""),
     # of a double, which is refused for what it turns alone
     ("sample", "harmless-too", CODE, "number / 2", "number / 8", ""),
-    ("sample", "part-is-more", CODE, "number / 2", "number | 1", GOAL),
+    ("sample", "part-is-more", CODE, "number / 2", "number | 1", FALSE_AT),
     ("sample", "stands-nowhere", CODE, "number / 3", "number", ""),
-    ("sample", "fivefold-is-sixfold", CODE, "fourfold(number) + number as u16", "fourfold(number) + double(number)", GOAL),
-    ("sample", "fivefold-in-other-words", CODE, "fourfold(number) + number as u16", "threefold(number) + double(number)", NAME),
+    ("sample", "fivefold-is-sixfold", CODE, "fourfold(number) + number as u16", "fourfold(number) + double(number)", FALSE_AT),
+    ("sample", "fivefold-in-other-words", CODE, "fourfold(number) + number as u16", "threefold(number) + double(number)", LOST),
     ("sample", "fivefold-the-other-way", CODE, "fourfold(number) + number as u16", "number as u16 + fourfold(number)", ""),
-    ("sample", "fivefold-is-fourfold", CODE, "fourfold(number) + number as u16", "fourfold(number)", GOAL),
-    ("sample", "again-in-other-words", CODE, "let once = number as u16;", "let once = number as u16 * 1;", ANSWER),
+    ("sample", "fivefold-is-fourfold", CODE, "fourfold(number) + number as u16", "fourfold(number)", FALSE_AT),
+    ("sample", "again-in-other-words", CODE, "let once = number as u16;", "let once = number as u16 * 1;", LOST),
     # the same way, and no page shows it
-    ("sample", "again-without-a-page", CODE, "let once = number as u16;", "let once = number as u16 + 0;", ANSWER),
-    ("stated", "sixfold-is-sevenfold", DEFINITIONS, "sixfold n = n * 6", "sixfold n = n * 7", GOAL),
+    ("sample", "again-without-a-page", CODE, "let once = number as u16;", "let once = number as u16 + 0;", LOST),
+    # right bodies of other forms: none is refused by a goal that is false at a case
+    ("sample", "double-by-a-count", CODE, "number as u16 * 2", f"{{ {BY_A_COUNT} }}", LOST),
+    ("sample", "double-by-a-while", CODE, "number as u16 * 2", f"{{ {BY_A_WHILE} }}", LOST),
+    ("sample", "fivefold-after-a-call", CODE, "fourfold(number) + number as u16", "{ let _ = fourfold(number / 2); fourfold(number) + number as u16 }", ""),
+    ("sample", "sum-after-a-read", CODE, "let one = items[at] as u16;", "let _ = items[at + 1]; let one = items[at] as u16;", ""),
+    ("sample", "sum-of-one-twice", CODE, "one + other", "one + one", FALSE_AT),
+    ("stated", "sixfold-is-sevenfold", DEFINITIONS, "sixfold n = n * 6", "sixfold n = n * 7", FALSE_AT),
     ("stated", "sixfold-in-other-words", DEFINITIONS, "sixfold n = n * 6", "sixfold n = 6 * n", ""),
     ("stated", "no-text-of-the-logic", DEFINITIONS, "sixfold n = n * 6", "sixfold n =", ""),
     ("false_one", "two-is-three", CODE, "    1", "    3", ""),
 ]
 # the pages that show edits
-PAGES = {"fivefold-in-other-words": "tests/numbers.md", "again-in-other-words": "tests/numbers.md"}
+PAGES = dict.fromkeys(("fivefold-in-other-words", "again-in-other-words", "double-by-a-count", "double-by-a-while"), "tests/numbers.md")
 
 
 def text_of(name, file, old, new):
@@ -169,6 +191,26 @@ def keeping_is_well(top, jobs, tell):
     kept = [told[1] for told in map(re.compile(r"rt: (\w+) is kept\b").match, said) if told]
     tell(f"kept of its proofs: {' '.join(kept) or 'nothing'}")
     return kept == ["sample"] and (again.passed, again.failed) == (2, 1)
+
+
+def verdicts_are_well(top, at, wanted, tell):
+    """Whether the verdicts of a trial stand for the same texts alone: not where a text that a check reads is another, or gone, and again once it is as it was."""
+
+    def known():
+        verdicts = Verdicts(House(top), at)
+        return {it: verdicts.kind_of(*it.split("/")) for it in wanted if verdicts.is_refused(*it.split("/"))}
+
+    first = known()
+    write_text(f"{top}/crates/stated/{DEFINITIONS}", AMOUNTS.replace("six times a number", "a number, six times"))
+    other = known()
+    write_text(f"{top}/crates/stated/{DEFINITIONS}", AMOUNTS)
+    again = known()
+    os.remove(f"{top}/crates/sample/proofs/again/Answers.antt")
+    gone = known()
+    write_text(f"{top}/crates/sample/proofs/again/Answers.antt", AGAIN)
+    tell(f"verdicts: {len(first)} at first, {len(other)} of other texts, {len(again)} of the first again, {len(gone)} where one is gone")
+    of_sample = {it: kind for it, kind in wanted.items() if it.startswith("sample/")}
+    return (first, other, again, gone) == (wanted, of_sample, wanted, {}) and len(of_sample) < len(wanted)
 
 
 # a tree of a program: the program, a crate below it and one that it does not use
@@ -227,4 +269,5 @@ def tools_are_well(place, jobs, say):
     wanted = {f"{crate}/{name}.edit": kind for crate, name, *_, kind in EDITS if kind}
     is_told = {it: trial.kinds[it] for it in trial.passed} == wanted and len(trial.failed) == len(EDITS) - len(wanted)
     is_told = is_told and trial.unshown == ["sample/again-without-a-page.edit"] and (proofs.passed, proofs.failed) == (2, 1)
-    return is_told and keeping_is_well(top, jobs, tell) and freshness_is_well(f"{place}/fresh", tell)
+    is_told = is_told and verdicts_are_well(f"{top}/edits", f"{top}/kept", wanted, tell) and freshness_is_well(f"{place}/fresh", tell)
+    return is_told and keeping_is_well(top, jobs, tell) and shown_is_well(f"{top}/shown", tell)

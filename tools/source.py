@@ -115,6 +115,6 @@ def collect(code, at, end, owner, is_of_trait, found):
             continue
         block = closing(code, item.end() - 1)
         inner = owner_of(item["block"] + item["head"]) if item["block"] != "mod" else plain(item["head"])
-        is_of_trait = item["block"] == "trait" or bool(re.search(r"\bfor\s", item["head"]))
-        collect(code, item.end(), block - 1, inner, is_of_trait, found)
+        of_trait = item["block"] == "trait" or bool(re.search(r"\bfor\s", item["head"]))
+        collect(code, item.end(), block - 1, inner, of_trait, found)
         at = block

@@ -8,11 +8,11 @@ import time
 
 import rattle
 from batches import plan, refused_at, shown, texts_of, unread
-from copies import copies_of, is_of_copies, texts_beside
+from copies import copies_of, is_closed_case, is_of_copies, texts_beside
 from edit_files import edit_faults, edit_files, places_of, read_edit, write_text
 from holes import make_holes
 from house import PARTS, copy_parts, tells_errors
-from showing import GOAL, KINDS as SHOWN, kind_alone, kind_in_batch
+from showing import FALSE, KINDS as SHOWN, LOST, OPEN, kind_by, said_alone, said_in_batch
 from verdicts import Verdicts
 
 # the memory that a check takes for each line of a crate, in bytes
@@ -32,8 +32,8 @@ class Trial:
         self.passed, self.failed = [], []
         # when no more is begun, and what was left out for that
         self.until, self.untried = until, []
-        # by what each was refused, and those that neither their contract nor a page or a test shows
-        self.kinds, self.unshown = {}, []
+        # by what each was refused, what the check said then, and those that neither their contract nor a page, a test or a closed case shows
+        self.kinds, self.said, self.unshown = {}, {}, []
         self.seconds, self.checks = dict.fromkeys(KINDS, 0.0), dict.fromkeys(KINDS, 0)
         # by crate: where its libraries lie, what its checks have kept, which come after the first, and whether any do
         self.libraries, self.kept, self.rest, self.has_more = {}, {}, {}, {}
@@ -85,28 +85,43 @@ class Trial:
             (self.passed if well else self.failed).append(f"{name}/{edit}")
             self.say(f"must-fail {name}/{edit}: {text}")
 
-    def tell_refused(self, name, edit, kind, text):
+    def tell_refused(self, name, edit, said, text):
+        """Tells that an edit is refused, as a check says."""
+        case, kind = self.case_of(name, edit), kind_by(said)
+        # a closed case has no variables: what does not hold there is false
+        if kind == OPEN and case and any(it.startswith("fn ") and f"::{case}: " in it for it in said):
+            kind = FALSE
         with self.lock:
-            self.kinds[f"{name}/{edit}"] = kind
+            self.kinds[f"{name}/{edit}"], self.said[f"{name}/{edit}"] = kind, said
         if name in self.proved:
             self.keep_refused(name, edit)
-        self.tell_kind(name, edit, kind, text)
+        self.tell_kind(name, edit, self.kinds[f"{name}/{edit}"], text)
 
     def tell_kind(self, name, edit, kind, text):
-        """Tells by what an edit is refused, and which page or test shows it where its contract does not."""
-        page = read_edit(self.house.folder(name), edit).page
-        shown = "" if kind == GOAL else f", and {page or 'nothing'} shows it"
+        """Tells by what an edit is refused, and which page, test or closed case shows it where its proof is lost."""
+        page = read_edit(self.house.folder(name), edit).page or self.case_of(name, edit)
+        shown = "" if kind != LOST else f", and {page or 'nothing'} shows it"
         if shown and not page:
             with self.lock:
                 self.unshown.append(f"{name}/{edit}")
         self.tell(name, edit, True, f"refused, as it must be, by {kind}{shown}{text}")
 
-    def keep_refused(self, name, edit):
-        self.verdicts.keep_refused(name, edit, self.kinds[f"{name}/{edit}"])
+    def case_of(self, name, edit):
+        """The closed case that refuses an edit, where its crate says that one does."""
+        places = self.places[name].get(edit, [])
+        return next((it for it in places if is_closed_case(self.house.folder(name), it)), "")
 
-    def shown_by(self):
-        """How many of the edits that are refused are so by each kind of what a check says."""
-        return {kind: sum(self.kinds.get(it) == kind for it in self.passed) for kind in SHOWN}
+    def keep_refused(self, name, edit):
+        it = f"{name}/{edit}"
+        self.verdicts.keep_refused(name, edit, self.kinds[it], self.said.get(it, []))
+
+    def counts(self):
+        """How many of the edits that are refused are so by each kind of what a check says, and which of them no page, test or closed case shows where they
+        want one."""
+        for kind in SHOWN:
+            yield f"edits refused by {kind}: {sum(self.kinds.get(it) == kind for it in self.passed)}"
+        unshown = sorted(it for it in self.unshown if it in self.passed)
+        yield f"edits that are lost, and no page, test or closed case shows them: {len(unshown)} {' '.join(unshown)}".rstrip()
 
     def checked(self, kind, name, folder, functions, kept):
         """A check of a crate's copy; its time is counted."""
@@ -242,7 +257,7 @@ class Trial:
         refused = shown(name, batch, status, lines)
         for it in batch:
             if it.edit.name in refused:
-                self.tell_refused(name, it.edit.name, kind_in_batch(lines, it.turned), " (shown in a batch)")
+                self.tell_refused(name, it.edit.name, said_in_batch(lines, it.turned), " (shown in a batch)")
         left = [it for it in batch if it.edit.name not in refused]
         if refused or len(left) < 4:
             for it in left:
@@ -259,7 +274,7 @@ class Trial:
             at = refused_at(status, lines, [it.path()])
             own = [one for one in lines if it.is_told_in(one)]
             if at and not unread(own, it.texts):
-                self.tell_refused(name, it.edit.name, kind_alone(own), " (shown by a law of its own, over its own copies)")
+                self.tell_refused(name, it.edit.name, said_alone(own), " (shown by a law of its own, over its own copies)")
             else:
                 self.add_alone(name, it.edit)
 
@@ -279,7 +294,7 @@ class Trial:
         status, lines = self.check_with("by one function", name, edit.texts, functions)
         at = refused_at(status, lines, functions)
         if at and not unread(lines, edit.texts):
-            self.tell_refused(name, edit.name, kind_alone(lines), f": {at[:160]}")
+            self.tell_refused(name, edit.name, said_alone(lines), f": {at[:160]}")
         else:
             self.add_whole(name, edit)
 
@@ -290,7 +305,7 @@ class Trial:
         if bad:
             self.tell(name, edit.name, False, f"BAD EDIT: the prover cannot read the edited text, so no contract was tried: {bad[:200]}")
         elif status == 1 and any(it.startswith("logic=not-proved") for it in lines):
-            self.tell_refused(name, edit.name, kind_alone(lines), f": {told[:160]}")
+            self.tell_refused(name, edit.name, said_alone(lines), f": {told[:160]}")
         elif status == 0:
             self.tell(name, edit.name, False, "NOT REFUSED: the crate is still proved with this edit")
         else:
