@@ -4,7 +4,7 @@
 //! (`first_ready` of `specs/PriorityList.antt`; `IsPick` says what that means). `Timers` lists timers by due time, among equals by issue.
 //! A change is one equation on the list, by `placed`, `without` or `marked`; an object has one entry and one timer at most.
 //! `with_limit` takes all the memory that either ever takes, and no other call can fail. A pick is one look, a mark a binary search
-//! among those that are ready. An insertion or a removal moves the entries of the shorter side, and says nothing anew of any other: the
+//! among those that are ready. What comes in or goes is found by a binary search and moves the entries of the shorter side alone: the
 //! first and the last move none.
 //! This crate knows nothing of programs, and of cells only their numbers: why an object is ready is the machine's concern.
 //!

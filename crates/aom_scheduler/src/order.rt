@@ -1,7 +1,7 @@
 //! The entries in order of choice, and by what each object is found among them.
 //!
-//! An object's key never changes while it is enlisted, so an entry that comes or goes leaves all others as they are. A hint says where the
-//! object stood when it was last asked for; nothing rests on it, since the entry there is looked at.
+//! An object's key stays while others come and go, so nothing is written of them then. A hint says where an object stood when it was last
+//! marked; nothing rests on it, since the entry there is looked at.
 ghost use Rattle.std.specs.Prelude.{◌≡◌, ◌<◌, ◌≤◌, ℕ, [], IfOk, IfSome, None, Some, IsNone, length, slice_get, slice_index_or, slice_set, AllPairs, true, false, nat_lt, ◌&&◌, if◌then◌else◌};
 ghost use Rattle.std.specs.List.Sorted.{IsPartitionPoint};
 ghost use Rattle.aom_scheduler.specs.Order.{placed, without};
