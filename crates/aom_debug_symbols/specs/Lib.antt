@@ -1,4 +1,4 @@
-pub mod Names
+pub mod NameLists
 pub mod Answers
 pub mod Lines
 pub mod Commands
