@@ -4,7 +4,7 @@ use Rattle.std.proofs.Common.{IfNone, IfOk, IfSome, Some, None, sym, ap, subst}
 use Rattle.aom_semantics.specs.State.{State}
 use Rattle.aom_semantics.specs.World.{Reaches}
 use Rattle.aom_transcript.specs.declared.line.Line.{Line}
-use Rattle.aom_debug_stepping.specs.Calls.{StandsFor}
+use Rattle.aom_debug_stepping.specs.Calls.{RefinesWithNatives}
 use Rattle.aom_debug_stepping.specs.Runners.{Went, outside_of}
 use Rattle.aom_debug_protocol.specs.declared.fault.DebugFault.TheVariants.{WriteFault}
 use Rattle.aom_debug_views.specs.Reporting.{Reports, ReportsPart}
@@ -29,8 +29,8 @@ module _ {X : Type 0} {B : X → Type 0} where
   module _ (leads : Debugger X B → RunGoals) (old mid new : Debugger X B) (may : MayGo old) (image : mid.runner.machine.core.image ≡ old.runner.machine.core.image)
       (spots : mid.breakpoints ≡ old.breakpoints) (names : mid.names ≡ old.names) (well : mid.has_failed ≡ old.has_failed)
       (before here now : Option (List ℕ)) (failed : Bool) where
-    stands_so : (machine : new.runner.machine ≡ mid.runner.machine) (u : State) → StandsFor mid.runner.machine u → StandsFor new.runner.machine u
-    stands_so machine u stands = subst (λ (m : HostedMachine X B). StandsFor m u) (sym machine) stands
+    stands_so : (machine : new.runner.machine ≡ mid.runner.machine) (u : State) → RefinesWithNatives mid.runner.machine u → RefinesWithNatives new.runner.machine u
+    stands_so machine u stands = subst (λ (m : HostedMachine X B). RefinesWithNatives m u) (sym machine) stands
 
     gone : ((s : State) (lines : List Line) (u : State) →
         leads old old.runner.recent mid.runner.recent s lines u → Reaches old.runner.machine.core.image (outside_of old.runner) s lines u) →

@@ -4,7 +4,7 @@ use Rattle.aom_image.specs.Image.{Image}
 use Rattle.aom_semantics.specs.State.{State}
 use Rattle.aom_transcript.specs.declared.line.Line.{Line}
 use Rattle.aom_transcript.specs.Text.{text_of}
-use Rattle.aom_debug_stepping.specs.Calls.{StandsFor}
+use Rattle.aom_debug_stepping.specs.Calls.{RefinesWithNatives}
 use Rattle.aom_debug_stepping.specs.Sends.{Breaks, Leads, HostedMachine, Sends}
 use Rattle.aom_transcript.specs.Sinks.{after}
 use Rattle.aom_debug.proofs.DebugSteppingLemmas.{after_both, cut_next, cut_short}
@@ -16,12 +16,12 @@ use Rattle.aom_debug.specs.Commands.{moved_text, place_text}
 module _ {X : Type 0} {B : X → Type 0} (ns : NameLists) (p : Image) (a c : HostedMachine X B) (image : c.core.image ≡ p) (before mid now : Option (List ℕ)) where
   -- all is out
   abbrev pub Out : Leads → Type 0
-  Out leads = (s : State) → StandsFor a s → (lines : List Line) × (u : State) × leads s lines u × (now ≡ after before (moved_text ns p lines u)) × StandsFor c u
+  Out leads = (s : State) → RefinesWithNatives a s → (lines : List Line) × (u : State) × leads s lines u × (now ≡ after before (moved_text ns p lines u)) × RefinesWithNatives c u
 
   -- or a beginning
   abbrev pub Part : Leads → Type 0
-  Part leads = (s : State) → StandsFor a s →
-      (lines : List Line) × (u : State) × leads s lines u × ((sent : ℕ) × (now ≡ after before (take sent (moved_text ns p lines u)))) × StandsFor c u
+  Part leads = (s : State) → RefinesWithNatives a s →
+      (lines : List Line) × (u : State) × leads s lines u × ((sent : ℕ) × (now ≡ after before (take sent (moved_text ns p lines u)))) × RefinesWithNatives c u
 
   pub all_out : (leads : Leads) → Sends leads a before mid c → Reports c.core (λ s. place_text ns c.core.image s) mid now → Out leads
   all_out leads x reports s stands =

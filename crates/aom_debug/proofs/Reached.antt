@@ -4,7 +4,7 @@ use Rattle.std.specs.Prelude.{IfErr, IfOk}
 use Rattle.aom_roles.specs.Things.{words_of}
 use Rattle.aom_semantics.specs.Places.{service_of}
 use Rattle.aom_semantics.specs.State.{State}
-use Rattle.aom_debug_stepping.specs.Calls.{StandsFor}
+use Rattle.aom_debug_stepping.specs.Calls.{RefinesWithNatives}
 use Rattle.aom_debug_protocol.specs.Ways.{Way}
 use Rattle.aom_debug_protocol.specs.declared.fault.DebugFault.{DebugFault}
 use Rattle.aom_debug_protocol.specs.declared.fault.DebugFault.TheVariants.{Ended, NoSuch}
@@ -30,7 +30,7 @@ module _ {X : Type 0} {B : X → Type 0} (w : Way) (d : Debugger X B) (out : Opt
   LooksNowhere shows lacks fault = LooksAt shows lacks d d (record { before = out; now = out; failed = failed }) (Err fault)
 
   looks_nowhere : (shows : Debugger X B → State → List ℕ → Type 0) (lacks : Debugger X B → State → Type 0) →
-      (Finds w d None → (s : State) → StandsFor d.runner.machine s → lacks d s) →
+      (Finds w d None → (s : State) → RefinesWithNatives d.runner.machine s → lacks d s) →
       (fault : DebugFault) → FindsNone (Finds w d None) d fault → LooksNowhere shows lacks fault
   looks_nowhere shows lacks so NoSuch none = (none.0, record { same = refl; silent = refl }, so none.1)
   looks_nowhere shows lacks so Ended has_write_failed = (has_write_failed, record { same = refl; silent = refl })

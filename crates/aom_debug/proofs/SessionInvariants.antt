@@ -12,7 +12,7 @@ use Rattle.aom_transcript.specs.Sinks.{after}
 use Rattle.aom_debug.proofs.DebugSteppingLemmas.{after_both, after_none, observes_as}
 use Rattle.aom_debug_symbols.specs.Commands.{command_by}
 use Rattle.aom_debug_protocol.specs.Lines.{Kept, pending_of}
-use Rattle.aom_debug.specs.Runners.{Keeps, outside_of}
+use Rattle.aom_debug.specs.Runners.{KeepsRunner, outside_of}
 use Rattle.aom_debug.specs.declared.debugger.Debugger.{Debugger}
 use Rattle.aom_debug.specs.SessionLoop.{BreaksOff, Broken, Ends, GoesOn, Held, Stopped, SessionInvariant}
 use Rattle.aom_debug_protocol.specs.declared.command.Command.{Command}
@@ -146,7 +146,7 @@ module _ {X : Type 0} {B : X → Type 0} (p : Image) (outside : Environment) (st
           }
 
       -- a line that is whole
-      pub session_invariant_line : (byte : ℕ) (then : Kept) → (byte == 10) ≡ true → then ≡ pending_of [] → Keeps d.runner new.runner → Observed (command_by d.names session_invariant.rest) d
+      pub session_invariant_line : (byte : ℕ) (then : Kept) → (byte == 10) ≡ true → then ≡ pending_of [] → KeepsRunner d.runner new.runner → Observed (command_by d.names session_invariant.rest) d
           new (record { before = here; now = now; failed = failed }) → SessionInvariant p outside start (text ++ byte ∷ []) new then before now
       session_invariant_line byte then feeds anew keeps observed =
           let f = observed.goes session_invariant.state session_invariant.stands in
@@ -216,7 +216,7 @@ module _ {X : Type 0} {B : X → Type 0} where
         subst (λ t. SessionInvariant p outside start t d now before mid) (append_assoc text bytes (byte ∷ []) ∙ ap (λ t. text ++ t) (sym is)) on
 
     pub goes_line : (new : Debugger X B) (then : Kept) (out : Option (List ℕ)) (failed : Bool) (said : Result (Option Command) DebugFault) →
-        (byte == 10) ≡ true → then ≡ pending_of [] → ((line : List ℕ) → kept ≡ pending_of line → said ≡ command_by d.names line) → Keeps d.runner new.runner
+        (byte == 10) ≡ true → then ≡ pending_of [] → ((line : List ℕ) → kept ≡ pending_of line → said ≡ command_by d.names line) → KeepsRunner d.runner new.runner
         → Observed said d new (record { before = mid; now = out; failed = failed }) → GoesOn a first here more new then out
     goes_line new then out failed said feeds anew says keeps observed p outside start text before session_invariant =
         let t = goes p outside start text before session_invariant in

@@ -5,7 +5,7 @@ use Rattle.aom_semantics.specs.State.{State}
 use Rattle.aom_semantics.specs.World.{Reaches}
 use Rattle.aom_transcript.specs.declared.line.Line.{Line}
 use Rattle.aom_transcript.specs.Text.{ended}
-use Rattle.aom_debug_stepping.specs.Calls.{StandsFor}
+use Rattle.aom_debug_stepping.specs.Calls.{RefinesWithNatives}
 use Rattle.aom_transcript.specs.Sinks.{after}
 use Rattle.aom_debug_stepping.specs.Runners.{outside_of}
 use Rattle.aom_debug_protocol.specs.declared.fault.DebugFault.{DebugFault}
@@ -51,14 +51,14 @@ module _ {X : Type 0} {B : X → Type 0} where
 
   -- from each state that the machine stood for such moves lead to one that it stands for, with the latest instructions as they are then, and their lines are out, and then where they lead
   pub record Moved (leads : Debugger X B → RunGoals) (old new : Debugger X B) (out : Outgoing) : Type 0 where
-    pub goes : (s : State) → StandsFor old.runner.machine s → (lines : List Line) × (u : State) × leads old old.runner.recent new.runner.recent s lines u × (out.now ≡ after out.before (moved_text old.names old.runner.machine.core.image lines u)) × StandsFor new.runner.machine u
+    pub goes : (s : State) → RefinesWithNatives old.runner.machine s → (lines : List Line) × (u : State) × leads old old.runner.recent new.runner.recent s lines u × (out.now ≡ after out.before (moved_text old.names old.runner.machine.core.image lines u)) × RefinesWithNatives new.runner.machine u
     pub spots : new.breakpoints ≡ old.breakpoints
     pub names : new.names ≡ old.names
     pub well : new.has_failed ≡ false
 
   -- the sink failed: it is a run, and a beginning of what would be told of it is out
   pub record Cut (old new : Debugger X B) (out : Outgoing) : Type 0 where
-    pub goes : (s : State) → StandsFor old.runner.machine s → (lines : List Line) × (u : State) × Reaches old.runner.machine.core.image (outside_of old.runner) s lines u × ((sent : ℕ) × (out.now ≡ after out.before (take sent (moved_text old.names old.runner.machine.core.image lines u)))) × StandsFor new.runner.machine u
+    pub goes : (s : State) → RefinesWithNatives old.runner.machine s → (lines : List Line) × (u : State) × Reaches old.runner.machine.core.image (outside_of old.runner) s lines u × ((sent : ℕ) × (out.now ≡ after out.before (take sent (moved_text old.names old.runner.machine.core.image lines u)))) × RefinesWithNatives new.runner.machine u
     pub spots : new.breakpoints ≡ old.breakpoints
     pub names : new.names ≡ old.names
     pub fails : out.failed ≡ true
@@ -199,11 +199,11 @@ module _ {X : Type 0} {B : X → Type 0} where
 
   -- what each state shows that the machine stands for is out
   abbrev pub Seen : (Debugger X B → State → List ℕ → Type 0) → Debugger X B → Option (List ℕ) → Option (List ℕ) → Type 0
-  Seen shows d before now = (s : State) → StandsFor d.runner.machine s → (text : List ℕ) × shows d s text × (now ≡ after before text)
+  Seen shows d before now = (s : State) → RefinesWithNatives d.runner.machine s → (text : List ℕ) × shows d s text × (now ≡ after before text)
 
   -- or a beginning of it
   abbrev pub SeenCut : (Debugger X B → State → List ℕ → Type 0) → Debugger X B → Option (List ℕ) → Option (List ℕ) → Type 0
-  SeenCut shows d before now = (s : State) → StandsFor d.runner.machine s → (text : List ℕ) × shows d s text × ((sent : ℕ) × (now ≡ after before (take sent text)))
+  SeenCut shows d before now = (s : State) → RefinesWithNatives d.runner.machine s → (text : List ℕ) × shows d s text × ((sent : ℕ) × (now ≡ after before (take sent text)))
 
   -- since the sink failed, and the fault says so
   abbrev pub SeenPart : (Debugger X B → State → List ℕ → Type 0) → Debugger X B → DebugFault → Bool → Option (List ℕ) → Option (List ℕ) → Type 0
@@ -220,7 +220,7 @@ module _ {X : Type 0} {B : X → Type 0} where
 
   -- one that is refused where no object is owned there
   abbrev pub LooksAt : (Debugger X B → State → List ℕ → Type 0) → (Debugger X B → State → Type 0) → Debugger X B → Debugger X B → Outgoing → Answer → Type 0
-  LooksAt shows lacks old new out (Err NoSuch) = (old.has_failed ≡ false) × Declined old new out × ((s : State) → StandsFor old.runner.machine s → lacks old s)
+  LooksAt shows lacks old new out (Err NoSuch) = (old.has_failed ≡ false) × Declined old new out × ((s : State) → RefinesWithNatives old.runner.machine s → lacks old s)
   LooksAt shows lacks old new out answer = Looks shows old new out answer
 
   -- what is found there is the object that each state has there, or it has none

@@ -3,7 +3,7 @@ ghost use Rattle.std.specs.Prelude.{◌≡◌, ◌⊎◌, [], Some, false, Ok, I
 ghost use Rattle.aom_natives.specs.Slots.{AllAgree};
 ghost use Rattle.aom_transcript.specs.Sinks.{after};
 ghost use Rattle.aom_commands.specs.declared.faults.Fault.TheVariants.{File, Write};
-ghost use Rattle.aom_debug.specs.Runners.{IsReady, Keeps};
+ghost use Rattle.aom_debug.specs.Runners.{IsReady, KeepsRunner};
 ghost use Rattle.aom_debug.specs.SessionLoop.{BreaksDown, BreaksOff, Ends, GoesOn, HoldsAll, StopsShort};
 ghost use Rattle.aom_debug.specs.Observing.{Observed, ObservedPart};
 ghost use Rattle.aom_debug.specs.Reporting.{IsCut};
@@ -29,7 +29,7 @@ fn execute<W: Sink>(
     requires ready { IsReady debugger.old.runner }
     requires well { debugger.old.has_failed ≡ false }
     ensures agree { AllAgree (λ l. l.ids) (λ l. (⟦<dyn Native as Native>⟧ l.native.vtable).owed l.native.value) debugger.new.runner.machine.natives.slots.items }
-    ensures keeps { Keeps debugger.old.runner debugger.new.runner }
+    ensures keeps { KeepsRunner debugger.old.runner debugger.new.runner }
     ensures ok { IfOk result (λ _. Observed said debugger.old debugger.new (record { before = W.out out.old; now = W.out out.new; failed = W.failed out.new })) }
     ensures err { IfErr result (λ fault. (fault ≡ Write) × ObservedPart said debugger.old (record { before = W.out out.old; now = W.out out.new; failed = W.failed out.new })) }
 {
@@ -52,7 +52,7 @@ fn command_done<W: Sink>(
     requires ready { IsReady debugger.old.runner }
     requires well { debugger.old.has_failed ≡ false }
     ensures agree { AllAgree (λ l. l.ids) (λ l. (⟦<dyn Native as Native>⟧ l.native.vtable).owed l.native.value) debugger.new.runner.machine.natives.slots.items }
-    ensures keeps { Keeps debugger.old.runner debugger.new.runner }
+    ensures keeps { KeepsRunner debugger.old.runner debugger.new.runner }
     ensures ok { IfOk result (λ _. Observed (Ok (Some command)) debugger.old debugger.new (record { before = W.out out.old; now = W.out out.new; failed = W.failed out.new })) }
     ensures err { IfErr result (λ fault. (fault ≡ Write) × ObservedPart (Ok (Some command)) debugger.old (record { before = W.out out.old; now = W.out out.new; failed = W.failed out.new })) }
 {
