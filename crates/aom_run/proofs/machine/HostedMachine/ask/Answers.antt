@@ -4,7 +4,7 @@ use Rattle.std.specs.Int.{int_wrap}
 use Rattle.std.proofs.lemmas.Int.{int_wrap_fits, to_z-of_z}
 use Rattle.aom_machine_state.specs.Agrees.{observed_by}
 use Rattle.aom_run.proofs.Stepped.{asks_nothing, asks_so, fits, observed_nothing, observed_so}
-use Rattle.aom_run.proofs.machine.Machine.ask.Goals as goal
+use Rattle.aom_run.proofs.machine.HostedMachine.ask.Goals as goal
 
 -- nothing is asked
 pub returns-in_default : goal.returns-in_default

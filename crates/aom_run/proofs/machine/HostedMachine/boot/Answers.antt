@@ -4,7 +4,7 @@ use Rattle.std.proofs.lemmas.Result.{IfErr-weaker, IfOk-weaker}
 use Rattle.aom_semantics.specs.World.{boot_state}
 use Rattle.aom_machine_state.specs.Stands.{Refines as CoreStands}
 use Rattle.aom_run.proofs.Booted.{memory_is_not_few}
-use Rattle.aom_run.proofs.machine.Machine.boot.Goals as goal
+use Rattle.aom_run.proofs.machine.HostedMachine.boot.Goals as goal
 
 pub boot_with_natives-requires-clause-stands : goal.boot_with_natives-requires-clause-stands
 boot_with_natives-requires-clause-stands g c = subst (λ p. CoreStands c.in-Ok.core (boot_state p)) (sym c.in-Ok.ensures.image) c.in-Ok.ensures.stands

@@ -1,7 +1,7 @@
 -- The natives stand beside the core, each with its box, and owe nothing.
 use Rattle.std.proofs.Common.{rules, ◌<◌, length, arith}
 use Rattle.aom_run.proofs.Booted.{count, serves_at_boot}
-use Rattle.aom_run.proofs.machine.Machine.boot_with_natives.Goals as goal
+use Rattle.aom_run.proofs.machine.HostedMachine.boot_with_natives.Goals as goal
 
 pub returns-in-Ok-clause-stands : goal.returns-in-Ok-clause-stands
 returns-in-Ok-clause-stands g c =

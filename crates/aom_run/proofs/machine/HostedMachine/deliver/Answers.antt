@@ -3,7 +3,7 @@ use Rattle.aom_semantics.specs.World.{delivers}
 use Rattle.aom_run.specs.Beside.{KeepsUnreported}
 use Rattle.aom_run.specs.Calls.{EventInRange, IsDelivered, Takes}
 use Rattle.aom_run.proofs.Serving.{unreported_but, with_any_name}
-use Rattle.aom_run.proofs.machine.Machine.deliver.Goals as goal
+use Rattle.aom_run.proofs.machine.HostedMachine.deliver.Goals as goal
 
 -- a word for a native changes nothing here, and its end is told
 pub returns-in-Report-clause-delivered : goal.returns-in-Report-clause-delivered

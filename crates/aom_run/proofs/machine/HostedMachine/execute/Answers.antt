@@ -1,7 +1,7 @@
 use Rattle.std.proofs.Common.{arith, refl}
 use Rattle.aom_transcript.specs.declared.event.Event.TheVariants.{Client}
 use Rattle.aom_run.proofs.Serving.{observed_only, executed_none, executed_so}
-use Rattle.aom_run.proofs.machine.Machine.execute.Goals as goal
+use Rattle.aom_run.proofs.machine.HostedMachine.execute.Goals as goal
 
 -- a number that is no client's changes nothing
 pub returns-then-client-ge-CLIENTS-clause-delivered : goal.returns-then-client-ge-CLIENTS-clause-delivered

@@ -3,7 +3,7 @@ use Rattle.std.proofs.lemmas.Bool.{true≢false}
 use Rattle.aom_transcript.specs.declared.event.Event.TheVariants.{Kill}
 use Rattle.aom_run.proofs.Serving.{observed_only, unreported_but}
 use Rattle.aom_run.proofs.Ending.{kills_nothing, kills_one, line_more}
-use Rattle.aom_run.proofs.machine.Machine.kill.Goals as goal
+use Rattle.aom_run.proofs.machine.HostedMachine.kill.Goals as goal
 
 -- one that does not live is killed no more
 pub returns-then-not-is_alive-clause-delivered : goal.returns-then-not-is_alive-clause-delivered

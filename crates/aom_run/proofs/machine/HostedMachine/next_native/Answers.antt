@@ -1,7 +1,7 @@
 use Rattle.std.proofs.Common.{rules, ap, ◌<◌, ◌≤◌, ◌∙◌, sym, arith}
 use Rattle.aom_run.specs.Calls.{natives_of}
 use Rattle.aom_run.proofs.Ending.{first_here, first_later, first_none, from_polled, is_alive_so, is_dead_so}
-use Rattle.aom_run.proofs.machine.Machine.next_native.Goals as goal
+use Rattle.aom_run.proofs.machine.HostedMachine.next_native.Goals as goal
 
 pub loop-native-init : goal.loop-native-init
 loop-native-init g c =

@@ -2,7 +2,7 @@ use Rattle.std.proofs.Common.{◌≡◌, ◌≤◌, ◌-◌}
 use Rattle.aom_run.specs.Calls.{RefinesWithNatives, natives_of}
 use Rattle.aom_semantics.specs.State.{State}
 use Rattle.aom_semantics.specs.World.{first_living}
-use Rattle.aom_run.proofs.machine.Machine.next_native.Given as goal
+use Rattle.aom_run.proofs.machine.HostedMachine.next_native.Given as goal
 
 -- none that lives was passed by
 abbrev pub invariant-loop-native : goal.invariant-loop-native

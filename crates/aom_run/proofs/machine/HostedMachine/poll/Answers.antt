@@ -2,7 +2,7 @@ use Rattle.std.proofs.Common.{refl, subst}
 use Rattle.std.specs.Prelude.{IfSome}
 use Rattle.aom_natives.specs.Slots.{living_at}
 use Rattle.aom_run.proofs.Ending.{owed_in, polled_so}
-use Rattle.aom_run.proofs.machine.Machine.poll.Goals as goal
+use Rattle.aom_run.proofs.machine.HostedMachine.poll.Goals as goal
 
 -- what is completed was outstanding
 pub polled-requires-clause-owed : goal.polled-requires-clause-owed

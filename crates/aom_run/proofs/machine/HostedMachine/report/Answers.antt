@@ -1,6 +1,6 @@
 use Rattle.aom_semantics.specs.World.{Observes}
 use Rattle.aom_run.proofs.Serving.{observed_plain, none_due_still, takes_plainly}
-use Rattle.aom_run.proofs.machine.Machine.report.Goals as goal
+use Rattle.aom_run.proofs.machine.HostedMachine.report.Goals as goal
 
 pub returns-clause-observed : goal.returns-clause-observed
 returns-clause-observed g c = λ now s st. takes_plainly c.args.self.now (record { core = c.observe_event.new.self; natives = c.send_word.new.natives }) s st Observes

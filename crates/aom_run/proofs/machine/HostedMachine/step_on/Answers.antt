@@ -3,7 +3,7 @@ use Rattle.aom_machine_state.specs.Agrees.{observed_by}
 use Rattle.aom_machine_state.specs.Stands.{MachineModel as Core}
 use Rattle.aom_machine.specs.Steps.{rank}
 use Rattle.aom_run.proofs.Stepped.{stays_idle, stepped_on}
-use Rattle.aom_run.proofs.machine.Machine.step_on.Goals as goal
+use Rattle.aom_run.proofs.machine.HostedMachine.step_on.Goals as goal
 
 pub returns-clause-steps : goal.returns-clause-steps
 returns-clause-steps g c = λ s st. (
