@@ -44,7 +44,7 @@ end
 fn place_reported(alloc: Global, text: &[u8]) -> Option<Option<LinkPlace>> {
     let image = assemble(alloc, text).ok()?;
     match check_conditions(&image) {
-        Ok(()) => Some(None),
+        Ok(_) => Some(None),
         Err(fault) => Some(link_place(&image, fault)),
     }
 }
