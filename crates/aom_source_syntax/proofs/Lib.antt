@@ -1,0 +1,3 @@
+pub mod Standing
+pub mod Trees
+pub mod Weights
