@@ -1,5 +1,5 @@
 -- What waits for a production's symbols completes as trees of these symbols do.
-use Rattle.std.proofs.Common.{ℕ, List, [], ◌∷◌, ◌++◌, ◌≡◌, ◌+◌, ◌∙◌, refl, sym, ap, subst, map, length, length-append, append_assoc, add-zero, arith, Some, slice_get}
+use Rattle.std.proofs.Common.{ℕ, List, [], ◌∷◌, ◌++◌, ◌≡◌, ◌+◌, ◌∙◌, refl, sym, ap, subst, map, length, length-append, append_assoc, add-zero, arith, Some}
 use Rattle.aom_source_syntax.specs.declared.item.Item.{Item}
 use Rattle.aom_source_syntax.specs.declared.stack.Waiting.{Waiting}
 use Rattle.aom_source_syntax.specs.declared.symbol.Class.{Class}
@@ -8,7 +8,7 @@ use Rattle.aom_source_syntax.specs.declared.symbol.Symbol.{Symbol}
 use Rattle.aom_source_syntax.specs.declared.symbol.Symbol.TheVariants as s
 use Rattle.aom_source_syntax.specs.Grammar.{rule}
 use Rattle.aom_source_syntax.specs.Programs.{Trees, None_more, Token_of, Item_of, Part_of, symbols_of, tokens_of, items_of, class_at, Fits}
-use Rattle.aom_source_syntax.specs.Reading.{waiting, After, Completes}
+use Rattle.aom_source_syntax.specs.Reading.{waiting, Completes}
 
 -- what waits completes from one number as from an equal one
 pub moved : (ws : List Waiting) (text : List Class) (i j : ℕ) (more : List Item) → i ≡ j → Completes ws text i more → Completes ws text j more
@@ -17,17 +17,23 @@ moved ws text i j more e h = let P : ℕ → Type 0 = λ k. Completes ws text k 
 pub expands : (tree : Trees) (text : List Class) (from at : ℕ) (ws : List Waiting) (more : List Item) → Fits tree text at
     → Completes ws text (at + length (tokens_of tree)) more → Completes (map (waiting from) (symbols_of tree) ++ ws) text at (items_of tree from at ++ more)
 expands None_more text from at ws more fits rest = moved ws text (at + 0) at more (add-zero at) rest
-expands (Token_of class others) text from at ws more fits rest =
-    (fits.0, expands others text from (at + 1) ws more fits.1
-      (moved ws text (at + length (class ∷ tokens_of others)) ((at + 1) + length (tokens_of others)) more (omega arith) rest))
+expands (Token_of class others) text from at ws more fits rest = (
+  fits.0,
+  expands others text from (at + 1) ws more fits.1
+      (moved ws text (at + length (class ∷ tokens_of others)) ((at + 1) + length (tokens_of others)) more (omega arith) rest),
+)
 expands (Item_of action others) text from at ws more fits rest =
     (items_of others from at ++ more, refl, expands others text from at ws more fits rest)
-expands (Part_of part inner others) text from at ws more fits rest =
-    (inner, items_of others from (at + length (tokens_of inner)) ++ more, fits.0, fits.1,
-      append_assoc (items_of inner at at) (items_of others from (at + length (tokens_of inner))) more,
-      expands others text from (at + length (tokens_of inner)) ws more fits.2
-        (moved ws text (at + length (tokens_of inner ++ tokens_of others)) ((at + length (tokens_of inner)) + length (tokens_of others)) more
-          (omega (arith, length-append (tokens_of inner) (tokens_of others))) rest))
+expands (Part_of part inner others) text from at ws more fits rest = (
+  inner,
+  items_of others from (at + length (tokens_of inner)) ++ more,
+  fits.0,
+  fits.1,
+  append_assoc (items_of inner at at) (items_of others from (at + length (tokens_of inner))) more,
+  expands others text from (at + length (tokens_of inner)) ws more fits.2
+      (moved ws text (at + length (tokens_of inner ++ tokens_of others)) ((at + length (tokens_of inner)) + length (tokens_of others)) more
+      (omega (arith, length-append (tokens_of inner) (tokens_of others))) rest),
+)
 
 pub record Gathered (symbols : List Symbol) (text : List Class) (from at : ℕ) (ws : List Waiting) (items : List Item) : Type 0 where
   pub tree : Trees

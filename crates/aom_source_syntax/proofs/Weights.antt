@@ -19,7 +19,15 @@ use Rattle.aom_source_syntax.specs.declared.expressions.ExpressionPart.{Expressi
 use Rattle.aom_source_syntax.specs.declared.expressions.ExpressionPart.TheVariants as ep
 use Rattle.aom_source_syntax.specs.declared.names.NamePart.{NamePart}
 use Rattle.aom_source_syntax.specs.declared.names.NamePart.TheVariants as np
-use Rattle.aom_source_syntax.specs.Grammar.{rule, declaration_rule, member_rule, statement_rule, expression_rule, name_rule, declarations_symbols, declaration_symbols, enum_members_symbols, enum_more_members_symbols, enum_value_symbols, parent_symbols, sessions_symbols, class_budget_symbols, class_body_symbols, members_symbols, member_symbols, more_words_symbols, own_type_symbols, parameter_list_symbols, more_parameters_symbols, role_parameters_symbols, more_role_parameters_symbols, result_symbols, no_leave_symbols, type_symbols, question_symbols, statements_symbols, statement_symbols, statement_at_return, statement_at_name, let_rest_symbols, let_value_symbols, condition_symbols, else_symbols, else_rest_symbols, more_or_symbols, more_and_symbols, more_comparison_symbols, more_bit_or_symbols, unary_symbols, unary_at_minus, primary_symbols, primary_at_super, primary_at_name, new_arguments_symbols, dotted_rest_symbols, argument_list_symbols, more_arguments_symbols, more_bit_xor_symbols, more_bit_and_symbols, more_sum_symbols, more_product_symbols}
+use Rattle.aom_source_syntax.specs.Grammar.{rule, declaration_rule, member_rule, statement_rule, expression_rule, name_rule}
+use Rattle.aom_source_syntax.specs.Grammar.{declarations_symbols, declaration_symbols, enum_members_symbols, enum_more_members_symbols, enum_value_symbols, parent_symbols}
+use Rattle.aom_source_syntax.specs.Grammar.{sessions_symbols, class_budget_symbols, class_body_symbols, members_symbols, member_symbols, more_words_symbols}
+use Rattle.aom_source_syntax.specs.Grammar.{own_type_symbols, parameter_list_symbols, more_parameters_symbols, role_parameters_symbols, more_role_parameters_symbols, result_symbols}
+use Rattle.aom_source_syntax.specs.Grammar.{no_leave_symbols, type_symbols, question_symbols, statements_symbols, statement_symbols, worded_statement_symbols}
+use Rattle.aom_source_syntax.specs.Grammar.{statement_at_return, statement_at_name, let_rest_symbols, let_value_symbols, condition_symbols, else_symbols}
+use Rattle.aom_source_syntax.specs.Grammar.{else_rest_symbols, more_or_symbols, more_and_symbols, more_comparison_symbols, more_bit_or_symbols, unary_symbols}
+use Rattle.aom_source_syntax.specs.Grammar.{unary_at_minus, primary_symbols, primary_at_super, primary_at_name, new_arguments_symbols, dotted_rest_symbols}
+use Rattle.aom_source_syntax.specs.Grammar.{argument_list_symbols, more_arguments_symbols, more_bit_xor_symbols, more_bit_and_symbols, more_sum_symbols, more_product_symbols}
 use Rattle.aom_source_syntax.specs.declared.stack.Waiting.{Waiting}
 use Rattle.aom_source_syntax.specs.Reading.{waiting}
 
@@ -327,6 +335,20 @@ statement_at_name_fall (c.Mark m.OrAssign) = refl
 statement_at_name_fall (c.Mark m.XorAssign) = refl
 statement_at_name_fall next = refl
 
+pub worded_statement_symbols_fall : (here : Class) → falls 15 false (worded_statement_symbols here) ≡ true
+worded_statement_symbols_fall (c.Keyword k.Leave) = refl
+worded_statement_symbols_fall (c.Keyword k.LeaveIf) = refl
+worded_statement_symbols_fall (c.Keyword k.Print) = refl
+worded_statement_symbols_fall (c.Keyword k.Enlist) = refl
+worded_statement_symbols_fall (c.Keyword k.After) = refl
+worded_statement_symbols_fall (c.Keyword k.Resume) = refl
+worded_statement_symbols_fall (c.Keyword k.Assert) = refl
+worded_statement_symbols_fall (c.Keyword k.Request) = refl
+worded_statement_symbols_fall (c.Keyword k.Reply) = refl
+worded_statement_symbols_fall (c.Keyword k.Delete) = refl
+worded_statement_symbols_fall (c.Keyword k.Defer) = refl
+worded_statement_symbols_fall here = refl
+
 pub statement_symbols_fall : (here next : Class) → falls 15 false (statement_symbols here next) ≡ true
 statement_symbols_fall (c.Keyword k.Let) next = refl
 statement_symbols_fall (c.Keyword k.Trap) next = refl
@@ -340,19 +362,8 @@ statement_symbols_fall (c.Keyword k.Stop) next = refl
 statement_symbols_fall (c.Keyword k.Cancel) next = refl
 statement_symbols_fall (c.Keyword k.Close) next = refl
 statement_symbols_fall (c.Keyword k.Return) next = statement_at_return_fall next
-statement_symbols_fall (c.Keyword k.Leave) next = refl
-statement_symbols_fall (c.Keyword k.LeaveIf) next = refl
-statement_symbols_fall (c.Keyword k.Print) next = refl
-statement_symbols_fall (c.Keyword k.Enlist) next = refl
-statement_symbols_fall (c.Keyword k.After) next = refl
-statement_symbols_fall (c.Keyword k.Resume) next = refl
-statement_symbols_fall (c.Keyword k.Assert) next = refl
-statement_symbols_fall (c.Keyword k.Request) next = refl
-statement_symbols_fall (c.Keyword k.Reply) next = refl
-statement_symbols_fall (c.Keyword k.Delete) next = refl
-statement_symbols_fall (c.Keyword k.Defer) next = refl
 statement_symbols_fall c.Name next = statement_at_name_fall next
-statement_symbols_fall here next = refl
+statement_symbols_fall here next = worded_statement_symbols_fall here
 
 pub let_rest_symbols_fall : (here : Class) → falls 2 false (let_rest_symbols here) ≡ true
 let_rest_symbols_fall (c.Mark m.Comma) = refl
@@ -580,8 +591,8 @@ chosen_lighter part symbols ws here next chosen =
     let P : Option (List Symbol) → Type 0 = λ o. falls (weight part) (may_be_empty part) o ≡ true in
     let h : falls (weight part) (may_be_empty part) (Some symbols) ≡ true = subst P chosen (rule_falls part here next) in
     lighter_by (may_be_empty part) (weight part) symbols ws
-      (both_0 (nat_lt (lead symbols) (weight part)) (may_be_empty part || has_token symbols) h)
-      (both_1 (nat_lt (lead symbols) (weight part)) (may_be_empty part || has_token symbols) h)
+    (both_0 (nat_lt (lead symbols) (weight part)) (may_be_empty part || has_token symbols) h)
+    (both_1 (nat_lt (lead symbols) (weight part)) (may_be_empty part || has_token symbols) h)
 
 -- the weight of what waits
 abbrev pub lead_of : List Waiting → ℕ

@@ -70,17 +70,23 @@ declaration_symbols (c.Keyword k.Messages) = Some (keyword k.Messages ∷ expres
 declaration_symbols (c.Keyword k.Natives) = Some (keyword k.Natives ∷ expression ep.Constant ∷ mark m.Semicolon ∷ item a.Natives ∷ [])
 declaration_symbols (c.Keyword k.Budget) = Some (keyword k.Budget ∷ expression ep.Constant ∷ mark m.Semicolon ∷ item a.MainBudget ∷ [])
 declaration_symbols c.Name = Some (name np.RootWord ∷ name np.RootClass ∷ mark m.Semicolon ∷ [])
-declaration_symbols (c.Keyword k.Const) = Some (item a.ConstBegin ∷ keyword k.Const ∷ name np.ConstName ∷ mark m.Assign ∷ expression ep.Constant ∷ mark m.Semicolon ∷ item a.Const ∷ [])
-declaration_symbols (c.Keyword k.Enum) = Some (item a.EnumBegin ∷ keyword k.Enum ∷ name np.EnumName ∷ mark m.OpenBrace ∷ declaration dp.EnumMembers ∷ mark m.CloseBrace ∷ item a.EnumEnd ∷ [])
+declaration_symbols (c.Keyword k.Const) =
+    Some (item a.ConstBegin ∷ keyword k.Const ∷ name np.ConstName ∷ mark m.Assign ∷ expression ep.Constant ∷ mark m.Semicolon ∷ item a.Const ∷ [])
+declaration_symbols (c.Keyword k.Enum) =
+    Some (item a.EnumBegin ∷ keyword k.Enum ∷ name np.EnumName ∷ mark m.OpenBrace ∷ declaration dp.EnumMembers ∷ mark m.CloseBrace ∷ item a.EnumEnd ∷
+    [])
 declaration_symbols (c.Keyword k.Class) = Some (item a.PlainClass ∷ keyword k.Class ∷ declaration dp.ClassRest ∷ [])
 declaration_symbols (c.Keyword k.Timer) = Some (item a.TimerClass ∷ keyword k.Timer ∷ keyword k.Class ∷ declaration dp.ClassRest ∷ [])
 declaration_symbols (c.Keyword k.Active) = Some (item a.ActiveClass ∷ keyword k.Active ∷ keyword k.Class ∷ declaration dp.ClassRest ∷ [])
 declaration_symbols (c.Keyword k.Token) = Some (item a.TokenClass ∷ keyword k.Token ∷ keyword k.Class ∷ declaration dp.ClassRest ∷ [])
 declaration_symbols (c.Keyword k.Session) = Some (item a.SessionClass ∷ keyword k.Session ∷ keyword k.Class ∷ declaration dp.ClassRest ∷ [])
 declaration_symbols (c.Keyword k.Server) = Some (item a.ServerClass ∷ keyword k.Server ∷ keyword k.Class ∷ declaration dp.ClassRest ∷ [])
-declaration_symbols (c.Keyword k.Native) = Some (item a.NativeClass ∷ keyword k.Native ∷ expression ep.Constant ∷ item a.NativeNumber ∷ keyword k.Class ∷ declaration dp.ClassRest ∷ [])
+declaration_symbols (c.Keyword k.Native) =
+    Some (item a.NativeClass ∷ keyword k.Native ∷ expression ep.Constant ∷ item a.NativeNumber ∷ keyword k.Class ∷ declaration dp.ClassRest ∷ [])
 declaration_symbols (c.Keyword k.Fn) = Some (member mp.Function ∷ [])
-declaration_symbols (c.Keyword k.Undo) = Some (item a.Undo ∷ keyword k.Undo ∷ name np.MethodName ∷ mark m.OpenParenthesis ∷ declaration dp.UndoName ∷ mark m.CloseParenthesis ∷ statement sp.Block ∷ item a.MethodEnd ∷ [])
+declaration_symbols (c.Keyword k.Undo) =
+    Some (item a.Undo ∷ keyword k.Undo ∷ name np.MethodName ∷ mark m.OpenParenthesis ∷ declaration dp.UndoName ∷ mark m.CloseParenthesis ∷
+    statement sp.Block ∷ item a.MethodEnd ∷ [])
 declaration_symbols (c.Keyword k.Main) = Some (item a.Main ∷ keyword k.Main ∷ statement sp.Block ∷ item a.MethodEnd ∷ [])
 declaration_symbols here = None
 
@@ -122,7 +128,8 @@ declaration_rule dp.EnumMoreMembers here = enum_more_members_symbols here
 declaration_rule dp.EnumMember here = Some (name np.MemberName ∷ declaration dp.EnumValue ∷ [])
 declaration_rule dp.EnumValue here = enum_value_symbols here
 declaration_rule dp.UndoName here = Some (a_name ∷ item a.Parameter ∷ item a.WordType ∷ [])
-declaration_rule dp.ClassRest here = Some (name np.ClassName ∷ declaration dp.Parent ∷ declaration dp.Sessions ∷ declaration dp.ClassBudget ∷ declaration dp.ClassBody ∷ [])
+declaration_rule dp.ClassRest here =
+    Some (name np.ClassName ∷ declaration dp.Parent ∷ declaration dp.Sessions ∷ declaration dp.ClassBudget ∷ declaration dp.ClassBody ∷ [])
 declaration_rule dp.Parent here = parent_symbols here
 declaration_rule dp.Sessions here = sessions_symbols here
 declaration_rule dp.ClassBudget here = class_budget_symbols here
@@ -138,13 +145,18 @@ members_symbols here = Some (member mp.Member ∷ member mp.Members ∷ [])
 abbrev pub member_symbols : Class → Option (List Symbol)
 member_symbols (c.Keyword k.Word) = Some (keyword k.Word ∷ name np.WordName ∷ member mp.MoreWords ∷ mark m.Semicolon ∷ [])
 member_symbols (c.Keyword k.Own) = Some (keyword k.Own ∷ name np.OwnName ∷ mark m.Colon ∷ member mp.OwnType ∷ mark m.Semicolon ∷ [])
-member_symbols (c.Keyword k.Construct) = Some (item a.Construct ∷ keyword k.Construct ∷ member mp.Parameters ∷ statement sp.Block ∷ item a.MethodEnd ∷ [])
+member_symbols (c.Keyword k.Construct) =
+    Some (item a.Construct ∷ keyword k.Construct ∷ member mp.Parameters ∷ statement sp.Block ∷ item a.MethodEnd ∷ [])
 member_symbols (c.Keyword k.Destruct) = Some (item a.Destruct ∷ keyword k.Destruct ∷ statement sp.Block ∷ item a.MethodEnd ∷ [])
 member_symbols (c.Keyword k.Run) = Some (item a.Run ∷ keyword k.Run ∷ statement sp.Block ∷ item a.MethodEnd ∷ [])
 member_symbols (c.Keyword k.Cancel) = Some (item a.CancelMethod ∷ keyword k.Cancel ∷ statement sp.Block ∷ item a.MethodEnd ∷ [])
 member_symbols (c.Keyword k.Accept) = Some (item a.Accept ∷ keyword k.Accept ∷ statement sp.Block ∷ item a.MethodEnd ∷ [])
-member_symbols (c.Keyword k.Error) = Some (item a.Error ∷ keyword k.Error ∷ mark m.OpenParenthesis ∷ member mp.RoleParameters ∷ mark m.CloseParenthesis ∷ statement sp.Block ∷ item a.MethodEnd ∷ [])
-member_symbols (c.Keyword k.Service) = Some (item a.Service ∷ keyword k.Service ∷ mark m.OpenParenthesis ∷ member mp.RoleParameters ∷ mark m.CloseParenthesis ∷ statement sp.Block ∷ item a.MethodEnd ∷ [])
+member_symbols (c.Keyword k.Error) =
+    Some (item a.Error ∷ keyword k.Error ∷ mark m.OpenParenthesis ∷ member mp.RoleParameters ∷ mark m.CloseParenthesis ∷ statement sp.Block ∷
+    item a.MethodEnd ∷ [])
+member_symbols (c.Keyword k.Service) =
+    Some (item a.Service ∷ keyword k.Service ∷ mark m.OpenParenthesis ∷ member mp.RoleParameters ∷ mark m.CloseParenthesis ∷ statement sp.Block ∷
+    item a.MethodEnd ∷ [])
 member_symbols (c.Keyword k.Fn) = Some (member mp.Function ∷ [])
 member_symbols (c.Keyword k.Override) = Some (item a.Override ∷ keyword k.Override ∷ member mp.Function ∷ [])
 member_symbols here = None
@@ -195,7 +207,9 @@ member_rule mp.Members here = members_symbols here
 member_rule mp.Member here = member_symbols here
 member_rule mp.MoreWords here = more_words_symbols here
 member_rule mp.OwnType here = own_type_symbols here
-member_rule mp.Function here = Some (item a.Function ∷ keyword k.Fn ∷ name np.MethodName ∷ member mp.Parameters ∷ member mp.Result ∷ member mp.NoLeave ∷ statement sp.Block ∷ item a.MethodEnd ∷ [])
+member_rule mp.Function here =
+    Some (item a.Function ∷ keyword k.Fn ∷ name np.MethodName ∷ member mp.Parameters ∷ member mp.Result ∷ member mp.NoLeave ∷ statement sp.Block ∷
+    item a.MethodEnd ∷ [])
 member_rule mp.Parameters here = Some (mark m.OpenParenthesis ∷ member mp.ParameterList ∷ mark m.CloseParenthesis ∷ [])
 member_rule mp.ParameterList here = parameter_list_symbols here
 member_rule mp.MoreParameters here = more_parameters_symbols here
@@ -219,44 +233,80 @@ statement_at_return (c.Mark m.Semicolon) = Some (keyword k.Return ∷ mark m.Sem
 statement_at_return next = Some (item a.ReturnBegin ∷ keyword k.Return ∷ expression ep.Expression ∷ mark m.Semicolon ∷ item a.ReturnValue ∷ [])
 
 abbrev pub statement_at_name : Class → Option (List Symbol)
-statement_at_name (c.Mark m.Assign) = Some (item a.Assign ∷ name np.AssignedName ∷ mark m.Assign ∷ expression ep.Expression ∷ mark m.Semicolon ∷ item a.AssignEnd ∷ [])
-statement_at_name (c.Mark m.PlusAssign) = Some (item a.Assign ∷ statement sp.ChangedName ∷ mark m.PlusAssign ∷ expression ep.Expression ∷ item a.Add ∷ mark m.Semicolon ∷ item a.AssignEnd ∷ [])
-statement_at_name (c.Mark m.MinusAssign) = Some (item a.Assign ∷ statement sp.ChangedName ∷ mark m.MinusAssign ∷ expression ep.Expression ∷ item a.Subtract ∷ mark m.Semicolon ∷ item a.AssignEnd ∷ [])
-statement_at_name (c.Mark m.TimesAssign) = Some (item a.Assign ∷ statement sp.ChangedName ∷ mark m.TimesAssign ∷ expression ep.Expression ∷ item a.Multiply ∷ mark m.Semicolon ∷ item a.AssignEnd ∷ [])
-statement_at_name (c.Mark m.AndAssign) = Some (item a.Assign ∷ statement sp.ChangedName ∷ mark m.AndAssign ∷ expression ep.Expression ∷ item a.BitAnd ∷ mark m.Semicolon ∷ item a.AssignEnd ∷ [])
-statement_at_name (c.Mark m.OrAssign) = Some (item a.Assign ∷ statement sp.ChangedName ∷ mark m.OrAssign ∷ expression ep.Expression ∷ item a.BitOr ∷ mark m.Semicolon ∷ item a.AssignEnd ∷ [])
-statement_at_name (c.Mark m.XorAssign) = Some (item a.Assign ∷ statement sp.ChangedName ∷ mark m.XorAssign ∷ expression ep.Expression ∷ item a.BitXor ∷ mark m.Semicolon ∷ item a.AssignEnd ∷ [])
+statement_at_name (c.Mark m.Assign) =
+    Some (item a.Assign ∷ name np.AssignedName ∷ mark m.Assign ∷ expression ep.Expression ∷ mark m.Semicolon ∷ item a.AssignEnd ∷ [])
+statement_at_name (c.Mark m.PlusAssign) =
+    Some (item a.Assign ∷ statement sp.ChangedName ∷ mark m.PlusAssign ∷ expression ep.Expression ∷ item a.Add ∷ mark m.Semicolon ∷
+    item a.AssignEnd ∷ [])
+statement_at_name (c.Mark m.MinusAssign) =
+    Some (item a.Assign ∷ statement sp.ChangedName ∷ mark m.MinusAssign ∷ expression ep.Expression ∷ item a.Subtract ∷ mark m.Semicolon ∷
+    item a.AssignEnd ∷ [])
+statement_at_name (c.Mark m.TimesAssign) =
+    Some (item a.Assign ∷ statement sp.ChangedName ∷ mark m.TimesAssign ∷ expression ep.Expression ∷ item a.Multiply ∷ mark m.Semicolon ∷
+    item a.AssignEnd ∷ [])
+statement_at_name (c.Mark m.AndAssign) =
+    Some (item a.Assign ∷ statement sp.ChangedName ∷ mark m.AndAssign ∷ expression ep.Expression ∷ item a.BitAnd ∷ mark m.Semicolon ∷
+    item a.AssignEnd ∷ [])
+statement_at_name (c.Mark m.OrAssign) =
+    Some (item a.Assign ∷ statement sp.ChangedName ∷ mark m.OrAssign ∷ expression ep.Expression ∷ item a.BitOr ∷ mark m.Semicolon ∷
+    item a.AssignEnd ∷ [])
+statement_at_name (c.Mark m.XorAssign) =
+    Some (item a.Assign ∷ statement sp.ChangedName ∷ mark m.XorAssign ∷ expression ep.Expression ∷ item a.BitXor ∷ mark m.Semicolon ∷
+    item a.AssignEnd ∷ [])
 statement_at_name next = Some (item a.Do ∷ expression ep.Expression ∷ mark m.Semicolon ∷ item a.DoEnd ∷ [])
+
+abbrev pub worded_statement_symbols : Class → Option (List Symbol)
+worded_statement_symbols (c.Keyword k.Leave) =
+    Some (item a.LeaveBegin ∷ keyword k.Leave ∷ expression ep.Expression ∷ mark m.Semicolon ∷ item a.Leave ∷ [])
+worded_statement_symbols (c.Keyword k.LeaveIf) =
+    Some (item a.LeaveIfBegin ∷ keyword k.LeaveIf ∷ expression ep.Expression ∷ mark m.Semicolon ∷ item a.LeaveIf ∷ [])
+worded_statement_symbols (c.Keyword k.Print) =
+    Some (item a.PrintBegin ∷ keyword k.Print ∷ expression ep.Expression ∷ mark m.Semicolon ∷ item a.Print ∷ [])
+worded_statement_symbols (c.Keyword k.Enlist) =
+    Some (item a.EnlistBegin ∷ keyword k.Enlist ∷ expression ep.Expression ∷ mark m.Semicolon ∷ item a.Enlist ∷ [])
+worded_statement_symbols (c.Keyword k.After) =
+    Some (item a.AfterBegin ∷ keyword k.After ∷ expression ep.Expression ∷ mark m.Semicolon ∷ item a.After ∷ [])
+worded_statement_symbols (c.Keyword k.Resume) =
+    Some (item a.ResumeBegin ∷ keyword k.Resume ∷ expression ep.Expression ∷ mark m.Semicolon ∷ item a.Resume ∷ [])
+worded_statement_symbols (c.Keyword k.Assert) =
+    Some (item a.AssertBegin ∷ keyword k.Assert ∷ item a.Test ∷ expression ep.Expression ∷ item a.TestEnd ∷ mark m.Semicolon ∷ item a.Assert ∷ [])
+worded_statement_symbols (c.Keyword k.Request) =
+    Some (item a.RequestBegin ∷ keyword k.Request ∷ expression ep.Expression ∷ item a.RequestFunction ∷ mark m.Comma ∷ expression ep.Expression ∷
+    mark m.Semicolon ∷ item a.Request ∷ [])
+worded_statement_symbols (c.Keyword k.Reply) =
+    Some (item a.ReplyBegin ∷ keyword k.Reply ∷ expression ep.Expression ∷ item a.ReplyTo ∷ mark m.Comma ∷ expression ep.Expression ∷
+    mark m.Semicolon ∷ item a.Reply ∷ [])
+worded_statement_symbols (c.Keyword k.Delete) = Some (keyword k.Delete ∷ name np.DeletedName ∷ mark m.Semicolon ∷ [])
+worded_statement_symbols (c.Keyword k.Defer) =
+    Some (item a.DeferBegin ∷ keyword k.Defer ∷ name np.DeferredName ∷ mark m.OpenParenthesis ∷ expression ep.Expression ∷ mark m.CloseParenthesis ∷
+    mark m.Semicolon ∷ item a.Defer ∷ [])
+worded_statement_symbols here = Some (item a.Do ∷ expression ep.Expression ∷ mark m.Semicolon ∷ item a.DoEnd ∷ [])
 
 abbrev pub statement_symbols : Class → Class → Option (List Symbol)
 statement_symbols (c.Keyword k.Let) next = Some (item a.Let ∷ keyword k.Let ∷ name np.LetName ∷ statement sp.LetRest ∷ [])
 statement_symbols (c.Keyword k.Trap) next = Some (statement sp.TrapRest ∷ [])
 statement_symbols (c.Keyword k.If) next = Some (statement sp.IfStatement ∷ [])
-statement_symbols (c.Keyword k.Loop) next = Some (item a.Loop ∷ keyword k.Loop ∷ expression ep.Constant ∷ item a.Rounds ∷ statement sp.Block ∷ item a.LoopEnd ∷ [])
-statement_symbols (c.Keyword k.While) next = Some (item a.While ∷ keyword k.While ∷ item a.Test ∷ expression ep.Expression ∷ item a.TestEnd ∷ keyword k.Max ∷ expression ep.Constant ∷ item a.Rounds ∷ statement sp.Block ∷ item a.LoopEnd ∷ [])
-statement_symbols (c.Keyword k.For) next = Some (item a.For ∷ keyword k.For ∷ name np.ForName ∷ keyword k.In ∷ expression ep.Constant ∷ item a.ForFrom ∷ mark m.DotDot ∷ expression ep.Constant ∷ item a.ForTo ∷ statement sp.Block ∷ item a.LoopEnd ∷ [])
+statement_symbols (c.Keyword k.Loop) next =
+    Some (item a.Loop ∷ keyword k.Loop ∷ expression ep.Constant ∷ item a.Rounds ∷ statement sp.Block ∷ item a.LoopEnd ∷ [])
+statement_symbols (c.Keyword k.While) next =
+    Some (item a.While ∷ keyword k.While ∷ item a.Test ∷ expression ep.Expression ∷ item a.TestEnd ∷ keyword k.Max ∷ expression ep.Constant ∷
+    item a.Rounds ∷ statement sp.Block ∷ item a.LoopEnd ∷ [])
+statement_symbols (c.Keyword k.For) next =
+    Some (item a.For ∷ keyword k.For ∷ name np.ForName ∷ keyword k.In ∷ expression ep.Constant ∷ item a.ForFrom ∷ mark m.DotDot ∷
+    expression ep.Constant ∷ item a.ForTo ∷ statement sp.Block ∷ item a.LoopEnd ∷ [])
 statement_symbols (c.Keyword k.Break) next = Some (keyword k.Break ∷ mark m.Semicolon ∷ item a.Break ∷ [])
 statement_symbols (c.Keyword k.Continue) next = Some (keyword k.Continue ∷ mark m.Semicolon ∷ item a.Continue ∷ [])
 statement_symbols (c.Keyword k.Stop) next = Some (keyword k.Stop ∷ mark m.Semicolon ∷ item a.Stop ∷ [])
 statement_symbols (c.Keyword k.Cancel) next = Some (keyword k.Cancel ∷ mark m.Semicolon ∷ item a.Cancel ∷ [])
 statement_symbols (c.Keyword k.Close) next = Some (keyword k.Close ∷ mark m.Semicolon ∷ item a.Close ∷ [])
 statement_symbols (c.Keyword k.Return) next = statement_at_return next
-statement_symbols (c.Keyword k.Leave) next = Some (item a.LeaveBegin ∷ keyword k.Leave ∷ expression ep.Expression ∷ mark m.Semicolon ∷ item a.Leave ∷ [])
-statement_symbols (c.Keyword k.LeaveIf) next = Some (item a.LeaveIfBegin ∷ keyword k.LeaveIf ∷ expression ep.Expression ∷ mark m.Semicolon ∷ item a.LeaveIf ∷ [])
-statement_symbols (c.Keyword k.Print) next = Some (item a.PrintBegin ∷ keyword k.Print ∷ expression ep.Expression ∷ mark m.Semicolon ∷ item a.Print ∷ [])
-statement_symbols (c.Keyword k.Enlist) next = Some (item a.EnlistBegin ∷ keyword k.Enlist ∷ expression ep.Expression ∷ mark m.Semicolon ∷ item a.Enlist ∷ [])
-statement_symbols (c.Keyword k.After) next = Some (item a.AfterBegin ∷ keyword k.After ∷ expression ep.Expression ∷ mark m.Semicolon ∷ item a.After ∷ [])
-statement_symbols (c.Keyword k.Resume) next = Some (item a.ResumeBegin ∷ keyword k.Resume ∷ expression ep.Expression ∷ mark m.Semicolon ∷ item a.Resume ∷ [])
-statement_symbols (c.Keyword k.Assert) next = Some (item a.AssertBegin ∷ keyword k.Assert ∷ item a.Test ∷ expression ep.Expression ∷ item a.TestEnd ∷ mark m.Semicolon ∷ item a.Assert ∷ [])
-statement_symbols (c.Keyword k.Request) next = Some (item a.RequestBegin ∷ keyword k.Request ∷ expression ep.Expression ∷ item a.RequestFunction ∷ mark m.Comma ∷ expression ep.Expression ∷ mark m.Semicolon ∷ item a.Request ∷ [])
-statement_symbols (c.Keyword k.Reply) next = Some (item a.ReplyBegin ∷ keyword k.Reply ∷ expression ep.Expression ∷ item a.ReplyTo ∷ mark m.Comma ∷ expression ep.Expression ∷ mark m.Semicolon ∷ item a.Reply ∷ [])
-statement_symbols (c.Keyword k.Delete) next = Some (keyword k.Delete ∷ name np.DeletedName ∷ mark m.Semicolon ∷ [])
-statement_symbols (c.Keyword k.Defer) next = Some (item a.DeferBegin ∷ keyword k.Defer ∷ name np.DeferredName ∷ mark m.OpenParenthesis ∷ expression ep.Expression ∷ mark m.CloseParenthesis ∷ mark m.Semicolon ∷ item a.Defer ∷ [])
 statement_symbols c.Name next = statement_at_name next
-statement_symbols here next = Some (item a.Do ∷ expression ep.Expression ∷ mark m.Semicolon ∷ item a.DoEnd ∷ [])
+statement_symbols here next = worded_statement_symbols here
 
 abbrev pub let_rest_symbols : Class → Option (List Symbol)
-let_rest_symbols (c.Mark m.Comma) = Some (mark m.Comma ∷ name np.CodeName ∷ mark m.Assign ∷ item a.Trap ∷ keyword k.Trap ∷ expression ep.Expression ∷ mark m.Semicolon ∷ item a.TrapEnd ∷ [])
+let_rest_symbols (c.Mark m.Comma) =
+    Some (mark m.Comma ∷ name np.CodeName ∷ mark m.Assign ∷ item a.Trap ∷ keyword k.Trap ∷ expression ep.Expression ∷ mark m.Semicolon ∷
+    item a.TrapEnd ∷ [])
 let_rest_symbols (c.Mark m.Colon) = Some (mark m.Colon ∷ member mp.Type ∷ mark m.Assign ∷ statement sp.LetValue ∷ [])
 let_rest_symbols (c.Mark m.Assign) = Some (mark m.Assign ∷ statement sp.LetValue ∷ [])
 let_rest_symbols here = None
@@ -266,7 +316,8 @@ let_value_symbols (c.Keyword k.Trap) = Some (statement sp.TrapRest ∷ [])
 let_value_symbols here = Some (expression ep.Expression ∷ mark m.Semicolon ∷ item a.LetEnd ∷ [])
 
 abbrev pub condition_symbols : Class → Option (List Symbol)
-condition_symbols (c.Keyword k.Let) = Some (item a.IfLet ∷ keyword k.Let ∷ name np.IfName ∷ mark m.Assign ∷ expression ep.Expression ∷ item a.IfLetEnd ∷ [])
+condition_symbols (c.Keyword k.Let) =
+    Some (item a.IfLet ∷ keyword k.Let ∷ name np.IfName ∷ mark m.Assign ∷ expression ep.Expression ∷ item a.IfLetEnd ∷ [])
 condition_symbols here = Some (item a.Test ∷ expression ep.Expression ∷ item a.TestEnd ∷ [])
 
 abbrev pub else_symbols : Class → Option (List Symbol)
@@ -284,8 +335,10 @@ statement_rule sp.Statements here next = statements_symbols here
 statement_rule sp.Statement here next = statement_symbols here next
 statement_rule sp.LetRest here next = let_rest_symbols here
 statement_rule sp.LetValue here next = let_value_symbols here
-statement_rule sp.TrapRest here next = Some (item a.Trap ∷ keyword k.Trap ∷ expression ep.Expression ∷ keyword k.Catch ∷ name np.CatchName ∷ statement sp.Block ∷ item a.TrapEnd ∷ [])
-statement_rule sp.IfStatement here next = Some (item a.If ∷ keyword k.If ∷ statement sp.Condition ∷ statement sp.Block ∷ statement sp.Else ∷ item a.IfEnd ∷ [])
+statement_rule sp.TrapRest here next =
+    Some (item a.Trap ∷ keyword k.Trap ∷ expression ep.Expression ∷ keyword k.Catch ∷ name np.CatchName ∷ statement sp.Block ∷ item a.TrapEnd ∷ [])
+statement_rule sp.IfStatement here next =
+    Some (item a.If ∷ keyword k.If ∷ statement sp.Condition ∷ statement sp.Block ∷ statement sp.Else ∷ item a.IfEnd ∷ [])
 statement_rule sp.Condition here next = condition_symbols here
 statement_rule sp.Else here next = else_symbols here
 statement_rule sp.ElseRest here next = else_rest_symbols here
@@ -330,13 +383,15 @@ primary_at_super next = Some (item a.SuperCall ∷ keyword k.Super ∷ mark m.Do
 abbrev pub primary_at_name : Class → Option (List Symbol)
 primary_at_name (c.Mark m.OpenParenthesis) = Some (item a.PlainCall ∷ name np.CalledName ∷ expression ep.Arguments ∷ item a.CallEnd ∷ [])
 primary_at_name (c.Mark m.Dot) = Some (item a.Dotted ∷ name np.ObjectName ∷ mark m.Dot ∷ name np.CalledName ∷ expression ep.DottedRest ∷ [])
-primary_at_name (c.Mark m.MaybeDot) = Some (item a.MaybeCall ∷ name np.ObjectName ∷ mark m.MaybeDot ∷ name np.CalledName ∷ expression ep.Arguments ∷ item a.CallEnd ∷ [])
+primary_at_name (c.Mark m.MaybeDot) =
+    Some (item a.MaybeCall ∷ name np.ObjectName ∷ mark m.MaybeDot ∷ name np.CalledName ∷ expression ep.Arguments ∷ item a.CallEnd ∷ [])
 primary_at_name next = Some (a_name ∷ item a.Name ∷ [])
 
 abbrev pub primary_symbols : Class → Class → Option (List Symbol)
 primary_symbols c.Number next = Some (a_number ∷ item a.Number ∷ [])
 primary_symbols (c.Mark m.OpenParenthesis) next = Some (mark m.OpenParenthesis ∷ expression ep.Expression ∷ mark m.CloseParenthesis ∷ [])
-primary_symbols (c.Keyword k.Maybe) next = Some (item a.MaybeNew ∷ keyword k.Maybe ∷ keyword k.New ∷ name np.NewClass ∷ expression ep.NewArguments ∷ item a.NewEnd ∷ [])
+primary_symbols (c.Keyword k.Maybe) next =
+    Some (item a.MaybeNew ∷ keyword k.Maybe ∷ keyword k.New ∷ name np.NewClass ∷ expression ep.NewArguments ∷ item a.NewEnd ∷ [])
 primary_symbols (c.Keyword k.New) next = Some (item a.New ∷ keyword k.New ∷ name np.NewClass ∷ expression ep.NewArguments ∷ item a.NewEnd ∷ [])
 primary_symbols (c.Keyword k.Take) next = Some (keyword k.Take ∷ name np.TakenName ∷ [])
 primary_symbols (c.Keyword k.Hand) next = Some (keyword k.Hand ∷ item a.Hand ∷ [])
@@ -348,7 +403,8 @@ primary_symbols (c.Keyword k.Enlisted) next = Some (keyword k.Enlisted ∷ item 
 primary_symbols (c.Keyword k.NoObject) next = Some (keyword k.NoObject ∷ item a.None ∷ [])
 primary_symbols (c.Keyword k.Ask) next = Some (item a.Ask ∷ keyword k.Ask ∷ expression ep.Arguments ∷ item a.AskEnd ∷ [])
 primary_symbols (c.Keyword k.Super) next = primary_at_super next
-primary_symbols (c.Keyword k.This) next = Some (item a.SelfCall ∷ keyword k.This ∷ mark m.Dot ∷ name np.CalledName ∷ expression ep.Arguments ∷ item a.CallEnd ∷ [])
+primary_symbols (c.Keyword k.This) next =
+    Some (item a.SelfCall ∷ keyword k.This ∷ mark m.Dot ∷ name np.CalledName ∷ expression ep.Arguments ∷ item a.CallEnd ∷ [])
 primary_symbols c.Name next = primary_at_name next
 primary_symbols here next = None
 

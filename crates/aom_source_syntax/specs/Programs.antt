@@ -1,5 +1,5 @@
 -- What a program is: a tree that fits the grammar, with its tokens and its items.
-use Rattle.std.specs.Prelude.{◌≡◌, ◌<◌, ◌≤◌, ℕ, Bool, ◌==◌, ◌+◌, ◌-◌, ◌++◌, if◌then◌else◌, List, [], ◌∷◌, length, take, Option, Some, None, slice_get, map}
+use Rattle.std.specs.Prelude.{◌≡◌, ◌<◌, ℕ, ◌+◌, ◌-◌, ◌++◌, List, [], ◌∷◌, length, take, Option, Some, None, slice_get, map}
 use Rattle.std.specs.List.{fold}
 use Rattle.aom_source_tokens.specs.declared.mark.Mark.TheVariants as m
 use Rattle.aom_source_tokens.specs.Tokens.{Word, A_number, A_name, A_keyword, A_mark, The_end, Placed}

@@ -10,7 +10,8 @@ use Rattle.aom_source_syntax.specs.declared.symbol.Class.TheVariants as c
 use Rattle.aom_source_syntax.specs.declared.symbol.Part.{Part}
 use Rattle.aom_source_syntax.specs.declared.symbol.Symbol.{Symbol}
 use Rattle.aom_source_syntax.specs.declared.symbol.Symbol.TheVariants as s
-use Rattle.aom_source_syntax.specs.Grammar.{rule}
+use Rattle.aom_source_syntax.specs.declared.declarations.DeclarationPart.TheVariants as d
+use Rattle.aom_source_syntax.specs.Grammar.{declaration, rule}
 use Rattle.aom_source_syntax.specs.Programs.{Trees, symbols_of, tokens_of, items_of, class_at, Fits, IsProgram, depth_at, depth_behind, Agree}
 
 -- a symbol waits, of a production that began at the token `from`
@@ -23,7 +24,7 @@ After (s.Token class) from text at others items = (slice_get text at ≡ Some cl
 After (s.Action action) from text at others items = (more : List Item) × (items ≡ record { action = action; token = from } ∷ more) × others at more
 After (s.Part part) from text at others items =
     (inner : Trees) × (more : List Item) × (rule part (class_at text at) (class_at text (at + 1)) ≡ Some (symbols_of inner)) × Fits inner text at
-      × (items ≡ items_of inner at at ++ more) × others (at + length (tokens_of inner)) more
+    × (items ≡ items_of inner at at ++ more) × others (at + length (tokens_of inner)) more
 
 -- what waits completes to these items, at the end of the text
 abbrev pub Completes : List Waiting → List Class → ℕ → List Item → Type 0
@@ -58,7 +59,7 @@ pub record NoProgram (text : List Class) (at : ℕ) : Type 0 where
 abbrev pub RefusesAs : List Class → ℕ → SyntaxFaultKind → Type 0
 RefusesAs text at (f.Token class) = NoProgram text at × ((class ≡ c.End) ⊎ (slice_get text at ≡ Some class → ⊥))
 RefusesAs text at (f.Part part) = NoProgram text at × (rule part (class_at text at) (class_at text (at + 1)) ≡ None)
-RefusesAs text at f.TooDeep = 64 < depth_at text (at + 1)
+RefusesAs text at f.TooDeep = (at < length text) × (64 < depth_at text (at + 1))
 RefusesAs text at f.OutOfMemory = Unit {0}
 
 abbrev pub Refuses : List Class → SyntaxFault → Type 0
@@ -84,4 +85,22 @@ IsChosen text at part old new =
 abbrev pub IsRefused : List Class → ℕ → Part → SyntaxFault → Type 0
 IsRefused text at part fault =
     ((fault ≡ record { token = at; kind = f.Part part }) × (rule part (class_at text at) (class_at text (at + 1)) ≡ None))
-      ⊎ (fault ≡ record { token = at; kind = f.OutOfMemory })
+    ⊎ (fault ≡ record { token = at; kind = f.OutOfMemory })
+
+-- a text that is a program, and in which never more than 64 brackets are open, is refused for want of memory alone
+abbrev pub RefusesNoProgram : List Class → SyntaxFault → Type 0
+RefusesNoProgram text fault = (items : List Item) → IsProgram text items → IsShallow text → fault.kind ≡ f.OutOfMemory
+
+-- no other items are those of the text
+abbrev pub IsOnlyProgram : List Class → List Item → Type 0
+IsOnlyProgram text items = (others : List Item) → IsProgram text others → others ≡ items
+
+-- a text has one tree of a program at most
+abbrev pub OneTree : Type 0
+OneTree =
+    (text : List Class) (one two : Trees) → symbols_of one ≡ declaration d.Program ∷ [] → symbols_of two ≡ declaration d.Program ∷ [] → Fits one text 0 → Fits two text 0
+    → one ≡ two
+
+-- and one list of items
+abbrev pub OneProgram : Type 0
+OneProgram = (text : List Class) (one two : List Item) → IsProgram text one → IsProgram text two → one ≡ two

@@ -17,10 +17,7 @@ pub struct Cursor {
 }
 
 impl Cursor {
-    pub const FIRST: Cursor = Cursor {
-        at: 0,
-        depth: 0,
-    };
+    pub const FIRST: Cursor = Cursor { at: 0, depth: 0 };
 
     /// Behind the next token, which has to be of this class.
     pub fn pass(self, text: &[Class], class: Class) -> Result<Cursor, SyntaxFault>
@@ -83,7 +80,9 @@ fn depth_behind(depth: u32, class: Class) -> u32
 {
     match class {
         Class::Mark(Mark::OpenParenthesis) | Class::Mark(Mark::OpenBrace) => depth + 1,
-        Class::Mark(Mark::CloseParenthesis) | Class::Mark(Mark::CloseBrace) => depth.saturating_sub(1),
+        Class::Mark(Mark::CloseParenthesis) | Class::Mark(Mark::CloseBrace) => depth.saturating_sub(
+            1,
+        ),
         _ => depth,
     }
 }

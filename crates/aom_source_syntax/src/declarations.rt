@@ -1,6 +1,7 @@
 //! The productions of programs, declarations and heads of classes.
 ghost use Rattle.std.specs.Prelude.{◌≡◌, option_map};
-ghost use Rattle.aom_source_syntax.specs.Grammar.{declaration_rule, declarations_symbols, declaration_symbols, enum_members_symbols, enum_more_members_symbols, enum_value_symbols, parent_symbols, sessions_symbols, class_budget_symbols, class_body_symbols};
+ghost use Rattle.aom_source_syntax.specs.Grammar.{declaration_rule, declarations_symbols, declaration_symbols, enum_members_symbols, enum_more_members_symbols};
+ghost use Rattle.aom_source_syntax.specs.Grammar.{enum_value_symbols, parent_symbols, sessions_symbols, class_budget_symbols, class_body_symbols};
 
 use crate::Action;
 use crate::expressions::ExpressionPart;
@@ -34,7 +35,8 @@ pub fn declaration_production(part: DeclarationPart, here: Class) -> Option<Symb
     ensures { option_map (λ s. s.now) result ≡ declaration_rule part here }
 {
     match part {
-        DeclarationPart::Program => symbols![Declaration Declarations, Class End, Action ProgramEnd],
+        DeclarationPart::Program =>
+            symbols![Declaration Declarations, Class End, Action ProgramEnd],
         DeclarationPart::Declarations => declarations_symbols(here),
         DeclarationPart::Declaration => declaration_symbols(here),
         DeclarationPart::EnumMembers => enum_members_symbols(here),
@@ -42,7 +44,8 @@ pub fn declaration_production(part: DeclarationPart, here: Class) -> Option<Symb
         DeclarationPart::EnumMember => symbols![Name MemberName, Declaration EnumValue],
         DeclarationPart::EnumValue => enum_value_symbols(here),
         DeclarationPart::UndoName => symbols![Class Name, Action Parameter, Action WordType],
-        DeclarationPart::ClassRest => symbols![Name ClassName, Declaration Parent, Declaration Sessions, Declaration ClassBudget, Declaration ClassBody],
+        DeclarationPart::ClassRest =>
+            symbols![Name ClassName, Declaration Parent, Declaration Sessions, Declaration ClassBudget, Declaration ClassBody],
         DeclarationPart::Parent => parent_symbols(here),
         DeclarationPart::Sessions => sessions_symbols(here),
         DeclarationPart::ClassBudget => class_budget_symbols(here),
@@ -64,23 +67,40 @@ fn declaration_symbols(here: Class) -> Option<Symbols>
     ensures { option_map (λ s. s.now) result ≡ declaration_symbols here }
 {
     match here {
-        Class::Keyword(Keyword::Cells) => symbols![Keyword Cells, Expression Constant, Mark Semicolon, Action Cells],
-        Class::Keyword(Keyword::Messages) => symbols![Keyword Messages, Expression Constant, Mark Semicolon, Action Messages],
-        Class::Keyword(Keyword::Natives) => symbols![Keyword Natives, Expression Constant, Mark Semicolon, Action Natives],
-        Class::Keyword(Keyword::Budget) => symbols![Keyword Budget, Expression Constant, Mark Semicolon, Action MainBudget],
+        Class::Keyword(Keyword::Cells) =>
+            symbols![Keyword Cells, Expression Constant, Mark Semicolon, Action Cells],
+        Class::Keyword(Keyword::Messages) =>
+            symbols![Keyword Messages, Expression Constant, Mark Semicolon, Action Messages],
+        Class::Keyword(Keyword::Natives) =>
+            symbols![Keyword Natives, Expression Constant, Mark Semicolon, Action Natives],
+        Class::Keyword(Keyword::Budget) =>
+            symbols![Keyword Budget, Expression Constant, Mark Semicolon, Action MainBudget],
         Class::Name => symbols![Name RootWord, Name RootClass, Mark Semicolon],
-        Class::Keyword(Keyword::Const) => symbols![Action ConstBegin, Keyword Const, Name ConstName, Mark Assign, Expression Constant, Mark Semicolon, Action Const],
-        Class::Keyword(Keyword::Enum) => symbols![Action EnumBegin, Keyword Enum, Name EnumName, Mark OpenBrace, Declaration EnumMembers, Mark CloseBrace, Action EnumEnd],
-        Class::Keyword(Keyword::Class) => symbols![Action PlainClass, Keyword Class, Declaration ClassRest],
-        Class::Keyword(Keyword::Timer) => symbols![Action TimerClass, Keyword Timer, Keyword Class, Declaration ClassRest],
-        Class::Keyword(Keyword::Active) => symbols![Action ActiveClass, Keyword Active, Keyword Class, Declaration ClassRest],
-        Class::Keyword(Keyword::Token) => symbols![Action TokenClass, Keyword Token, Keyword Class, Declaration ClassRest],
-        Class::Keyword(Keyword::Session) => symbols![Action SessionClass, Keyword Session, Keyword Class, Declaration ClassRest],
-        Class::Keyword(Keyword::Server) => symbols![Action ServerClass, Keyword Server, Keyword Class, Declaration ClassRest],
-        Class::Keyword(Keyword::Native) => symbols![Action NativeClass, Keyword Native, Expression Constant, Action NativeNumber, Keyword Class, Declaration ClassRest],
+        Class::Keyword(Keyword::Const) =>
+            symbols![Action ConstBegin, Keyword Const, Name ConstName, Mark Assign, Expression Constant, Mark Semicolon, Action Const],
+        Class::Keyword(Keyword::Enum) =>
+            symbols![Action EnumBegin, Keyword Enum, Name EnumName, Mark OpenBrace, Declaration EnumMembers, Mark CloseBrace, Action EnumEnd],
+        Class::Keyword(Keyword::Class) =>
+            symbols![Action PlainClass, Keyword Class, Declaration ClassRest],
+        Class::Keyword(Keyword::Timer) =>
+            symbols![Action TimerClass, Keyword Timer, Keyword Class, Declaration ClassRest],
+        Class::Keyword(Keyword::Active) =>
+            symbols![Action ActiveClass, Keyword Active, Keyword Class, Declaration ClassRest],
+        Class::Keyword(Keyword::Token) =>
+            symbols![Action TokenClass, Keyword Token, Keyword Class, Declaration ClassRest],
+        Class::Keyword(Keyword::Session) =>
+            symbols![Action SessionClass, Keyword Session, Keyword Class, Declaration ClassRest],
+        Class::Keyword(Keyword::Server) =>
+            symbols![Action ServerClass, Keyword Server, Keyword Class, Declaration ClassRest],
+        Class::Keyword(Keyword::Native) =>
+            symbols![Action NativeClass, Keyword Native, Expression Constant, Action NativeNumber, Keyword Class, Declaration ClassRest],
         Class::Keyword(Keyword::Fn) => symbols![Member Function],
-        Class::Keyword(Keyword::Undo) => symbols![Action Undo, Keyword Undo, Name MethodName, Mark OpenParenthesis, Declaration UndoName, Mark CloseParenthesis, Statement Block, Action MethodEnd],
-        Class::Keyword(Keyword::Main) => symbols![Action Main, Keyword Main, Statement Block, Action MethodEnd],
+        Class::Keyword(Keyword::Undo) => symbols![
+                Action Undo, Keyword Undo, Name MethodName, Mark OpenParenthesis,
+                Declaration UndoName, Mark CloseParenthesis, Statement Block, Action MethodEnd
+            ],
+        Class::Keyword(Keyword::Main) =>
+            symbols![Action Main, Keyword Main, Statement Block, Action MethodEnd],
         _ => None,
     }
 }
@@ -125,7 +145,8 @@ fn sessions_symbols(here: Class) -> Option<Symbols>
     ensures { option_map (λ s. s.now) result ≡ sessions_symbols here }
 {
     match here {
-        Class::Keyword(Keyword::Of) => symbols![Keyword Of, Name SessionName, Keyword Max, Expression Constant, Action MostSessions],
+        Class::Keyword(Keyword::Of) =>
+            symbols![Keyword Of, Name SessionName, Keyword Max, Expression Constant, Action MostSessions],
         _ => symbols![],
     }
 }
@@ -134,7 +155,8 @@ fn class_budget_symbols(here: Class) -> Option<Symbols>
     ensures { option_map (λ s. s.now) result ≡ class_budget_symbols here }
 {
     match here {
-        Class::Keyword(Keyword::Budget) => symbols![Keyword Budget, Expression Constant, Action ClassBudget],
+        Class::Keyword(Keyword::Budget) =>
+            symbols![Keyword Budget, Expression Constant, Action ClassBudget],
         _ => symbols![],
     }
 }
@@ -144,7 +166,8 @@ fn class_body_symbols(here: Class) -> Option<Symbols>
 {
     match here {
         Class::Mark(Mark::Semicolon) => symbols![Mark Semicolon, Action ClassEnd],
-        Class::Mark(Mark::OpenBrace) => symbols![Mark OpenBrace, Member Members, Declaration ClassClose],
+        Class::Mark(Mark::OpenBrace) =>
+            symbols![Mark OpenBrace, Member Members, Declaration ClassClose],
         _ => None,
     }
 }

@@ -1,6 +1,8 @@
 //! The productions of members of classes, methods and types.
 ghost use Rattle.std.specs.Prelude.{◌≡◌, option_map};
-ghost use Rattle.aom_source_syntax.specs.Grammar.{member_rule, members_symbols, member_symbols, more_words_symbols, own_type_symbols, parameter_list_symbols, more_parameters_symbols, role_parameters_symbols, more_role_parameters_symbols, result_symbols, no_leave_symbols, type_symbols, question_symbols};
+ghost use Rattle.aom_source_syntax.specs.Grammar.{member_rule, members_symbols, member_symbols, more_words_symbols, own_type_symbols};
+ghost use Rattle.aom_source_syntax.specs.Grammar.{parameter_list_symbols, more_parameters_symbols, role_parameters_symbols, more_role_parameters_symbols, result_symbols};
+ghost use Rattle.aom_source_syntax.specs.Grammar.{no_leave_symbols, type_symbols, question_symbols};
 
 use crate::Action;
 use crate::expressions::ExpressionPart;
@@ -39,8 +41,10 @@ pub fn member_production(part: MemberPart, here: Class) -> Option<Symbols>
         MemberPart::Member => member_symbols(here),
         MemberPart::MoreWords => more_words_symbols(here),
         MemberPart::OwnType => own_type_symbols(here),
-        MemberPart::Function => symbols![Action Function, Keyword Fn, Name MethodName, Member Parameters, Member Result, Member NoLeave, Statement Block, Action MethodEnd],
-        MemberPart::Parameters => symbols![Mark OpenParenthesis, Member ParameterList, Mark CloseParenthesis],
+        MemberPart::Function =>
+            symbols![Action Function, Keyword Fn, Name MethodName, Member Parameters, Member Result, Member NoLeave, Statement Block, Action MethodEnd],
+        MemberPart::Parameters =>
+            symbols![Mark OpenParenthesis, Member ParameterList, Mark CloseParenthesis],
         MemberPart::ParameterList => parameter_list_symbols(here),
         MemberPart::MoreParameters => more_parameters_symbols(here),
         MemberPart::Parameter => symbols![Name ParameterName, Mark Colon, Member Type],
@@ -67,17 +71,29 @@ fn member_symbols(here: Class) -> Option<Symbols>
     ensures { option_map (λ s. s.now) result ≡ member_symbols here }
 {
     match here {
-        Class::Keyword(Keyword::Word) => symbols![Keyword Word, Name WordName, Member MoreWords, Mark Semicolon],
-        Class::Keyword(Keyword::Own) => symbols![Keyword Own, Name OwnName, Mark Colon, Member OwnType, Mark Semicolon],
-        Class::Keyword(Keyword::Construct) => symbols![Action Construct, Keyword Construct, Member Parameters, Statement Block, Action MethodEnd],
-        Class::Keyword(Keyword::Destruct) => symbols![Action Destruct, Keyword Destruct, Statement Block, Action MethodEnd],
-        Class::Keyword(Keyword::Run) => symbols![Action Run, Keyword Run, Statement Block, Action MethodEnd],
-        Class::Keyword(Keyword::Cancel) => symbols![Action CancelMethod, Keyword Cancel, Statement Block, Action MethodEnd],
-        Class::Keyword(Keyword::Accept) => symbols![Action Accept, Keyword Accept, Statement Block, Action MethodEnd],
-        Class::Keyword(Keyword::Error) => symbols![Action Error, Keyword Error, Mark OpenParenthesis, Member RoleParameters, Mark CloseParenthesis, Statement Block, Action MethodEnd],
-        Class::Keyword(Keyword::Service) => symbols![Action Service, Keyword Service, Mark OpenParenthesis, Member RoleParameters, Mark CloseParenthesis, Statement Block, Action MethodEnd],
+        Class::Keyword(Keyword::Word) =>
+            symbols![Keyword Word, Name WordName, Member MoreWords, Mark Semicolon],
+        Class::Keyword(Keyword::Own) =>
+            symbols![Keyword Own, Name OwnName, Mark Colon, Member OwnType, Mark Semicolon],
+        Class::Keyword(Keyword::Construct) =>
+            symbols![Action Construct, Keyword Construct, Member Parameters, Statement Block, Action MethodEnd],
+        Class::Keyword(Keyword::Destruct) =>
+            symbols![Action Destruct, Keyword Destruct, Statement Block, Action MethodEnd],
+        Class::Keyword(Keyword::Run) =>
+            symbols![Action Run, Keyword Run, Statement Block, Action MethodEnd],
+        Class::Keyword(Keyword::Cancel) =>
+            symbols![Action CancelMethod, Keyword Cancel, Statement Block, Action MethodEnd],
+        Class::Keyword(Keyword::Accept) =>
+            symbols![Action Accept, Keyword Accept, Statement Block, Action MethodEnd],
+        Class::Keyword(Keyword::Error) =>
+            symbols![Action Error, Keyword Error, Mark OpenParenthesis, Member RoleParameters, Mark CloseParenthesis, Statement Block, Action MethodEnd],
+        Class::Keyword(Keyword::Service) => symbols![
+                Action Service, Keyword Service, Mark OpenParenthesis,
+                Member RoleParameters, Mark CloseParenthesis, Statement Block, Action MethodEnd
+            ],
         Class::Keyword(Keyword::Fn) => symbols![Member Function],
-        Class::Keyword(Keyword::Override) => symbols![Action Override, Keyword Override, Member Function],
+        Class::Keyword(Keyword::Override) =>
+            symbols![Action Override, Keyword Override, Member Function],
         _ => None,
     }
 }
@@ -95,7 +111,8 @@ fn own_type_symbols(here: Class) -> Option<Symbols>
     ensures { option_map (λ s. s.now) result ≡ own_type_symbols here }
 {
     match here {
-        Class::Keyword(Keyword::Msg) => symbols![Action MessageElse, Keyword Msg, Keyword Else, Expression Expression, Action OwnMessage],
+        Class::Keyword(Keyword::Msg) =>
+            symbols![Action MessageElse, Keyword Msg, Keyword Else, Expression Expression, Action OwnMessage],
         _ => symbols![Name OwnClass],
     }
 }

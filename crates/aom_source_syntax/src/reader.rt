@@ -1,7 +1,7 @@
 //! The reader: what is still to come, and the items of what has been read.
 ghost use Rattle.std.specs.Prelude.{◌≡◌, ◌≤◌, ◌<◌, ◌+◌, ◌^◌, [], ◌∷◌, ◌++◌, length, OnOk, IfOk, IfErr};
 ghost use Rattle.aom_source_syntax.specs.Programs.{classes_of, IsProgram};
-ghost use Rattle.aom_source_syntax.specs.Reading.{Stands, expecting, Refuses, IsShallow, IsChosen, IsRefused};
+ghost use Rattle.aom_source_syntax.specs.Reading.{Stands, expecting, Refuses, RefusesNoProgram, IsOnlyProgram, IsShallow, IsChosen, IsRefused};
 ghost use Rattle.aom_source_syntax.specs.declared.fault.SyntaxFaultKind.TheVariants.{OutOfMemory};
 
 use crate::cursor::{Cursor, class_at};
@@ -25,6 +25,8 @@ pub fn read_program(alloc: Global, tokens: &Tokens<'_>) -> Result<Vec<Item>, Syn
     ensures program { IfOk result (λ items. IsProgram (classes_of tokens.now.tokens) items.items) }
     ensures shallow { OnOk result (IsShallow (classes_of tokens.now.tokens)) }
     ensures refused { IfErr result (λ f. Refuses (classes_of tokens.now.tokens) f) }
+    ensures complete { IfErr result (λ f. RefusesNoProgram (classes_of tokens.now.tokens) f) }
+    ensures only { IfOk result (λ items. IsOnlyProgram (classes_of tokens.now.tokens) items.items) }
 {
     match classes_of(alloc, tokens) {
         Ok(text) => read(alloc, &text),
@@ -76,7 +78,10 @@ impl Reader {
         ensures refused { IfErr result (λ f. f ≡ record { token = 0; kind = OutOfMemory }) }
     {
         let mut stack = Stack::new(alloc);
-        match stack.push(&[Symbol::Part(Part::Declaration(DeclarationPart::Program))], 0) {
+        match stack.push(
+            &[Symbol::Part(Part::Declaration(DeclarationPart::Program))],
+            0,
+        ) {
             Ok(()) => Ok(Reader {
                 stack,
                 items: Vec::new(alloc),

@@ -3,12 +3,12 @@ ghost use Rattle.std.specs.Prelude.{◌≡◌, ◌↔◌, IsTrue};
 ghost use Rattle.aom_source_syntax.specs.Programs.{class_of};
 ghost use Rattle.aom_source_tokens.specs.Tokens.{word_of};
 
+use crate::Action;
 use crate::declarations::DeclarationPart;
 use crate::expressions::ExpressionPart;
 use crate::members::MemberPart;
 use crate::names::NamePart;
 use crate::statements::StatementPart;
-use crate::Action;
 use aom_source_tokens::{Keyword, Kind, Mark};
 
 /// What the grammar sees of a token.
@@ -39,7 +39,9 @@ impl Class {
         ensures { IsTrue result ↔ (self ≡ other) }
     {
         match (self, other) {
-            (Class::Number, Class::Number) | (Class::Name, Class::Name) | (Class::End, Class::End) => true,
+            (Class::Number, Class::Number)
+            | (Class::Name, Class::Name)
+            | (Class::End, Class::End) => true,
             (Class::Keyword(keyword), Class::Keyword(other)) => keyword == other,
             (Class::Mark(mark), Class::Mark(other)) => mark == other,
             _ => false,

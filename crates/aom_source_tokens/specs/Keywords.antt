@@ -26,6 +26,13 @@ keyword_of_three word =
     else if bytes_eq word (codes "ask") then Some k.Ask
     else None
 
+abbrev pub keyword_of_four_later : List ℕ → Option Keyword
+keyword_of_four_later word =
+    if bytes_eq word (codes "hand") then Some k.Hand
+    else if bytes_eq word (codes "none") then Some k.NoObject
+    else if bytes_eq word (codes "self") then Some k.This
+    else None
+
 -- those of four letters
 abbrev pub keyword_of_four : List ℕ → Option Keyword
 keyword_of_four word =
@@ -38,9 +45,18 @@ keyword_of_four word =
     else if bytes_eq word (codes "stop") then Some k.Stop
     else if bytes_eq word (codes "trap") then Some k.Trap
     else if bytes_eq word (codes "take") then Some k.Take
-    else if bytes_eq word (codes "hand") then Some k.Hand
-    else if bytes_eq word (codes "none") then Some k.NoObject
-    else if bytes_eq word (codes "self") then Some k.This
+    else keyword_of_four_later word
+
+abbrev pub keyword_of_five_later : List ℕ → Option Keyword
+keyword_of_five_later word =
+    if bytes_eq word (codes "print") then Some k.Print
+    else if bytes_eq word (codes "after") then Some k.After
+    else if bytes_eq word (codes "close") then Some k.Close
+    else if bytes_eq word (codes "reply") then Some k.Reply
+    else if bytes_eq word (codes "defer") then Some k.Defer
+    else if bytes_eq word (codes "catch") then Some k.Catch
+    else if bytes_eq word (codes "maybe") then Some k.Maybe
+    else if bytes_eq word (codes "super") then Some k.Super
     else None
 
 -- those of five letters
@@ -55,14 +71,13 @@ keyword_of_five word =
     else if bytes_eq word (codes "while") then Some k.While
     else if bytes_eq word (codes "break") then Some k.Break
     else if bytes_eq word (codes "leave") then Some k.Leave
-    else if bytes_eq word (codes "print") then Some k.Print
-    else if bytes_eq word (codes "after") then Some k.After
-    else if bytes_eq word (codes "close") then Some k.Close
-    else if bytes_eq word (codes "reply") then Some k.Reply
-    else if bytes_eq word (codes "defer") then Some k.Defer
-    else if bytes_eq word (codes "catch") then Some k.Catch
-    else if bytes_eq word (codes "maybe") then Some k.Maybe
-    else if bytes_eq word (codes "super") then Some k.Super
+    else keyword_of_five_later word
+
+abbrev pub keyword_of_six_later : List ℕ → Option Keyword
+keyword_of_six_later word =
+    if bytes_eq word (codes "resume") then Some k.Resume
+    else if bytes_eq word (codes "assert") then Some k.Assert
+    else if bytes_eq word (codes "status") then Some k.Status
     else None
 
 -- those of six letters
@@ -77,10 +92,7 @@ keyword_of_six word =
     else if bytes_eq word (codes "return") then Some k.Return
     else if bytes_eq word (codes "delete") then Some k.Delete
     else if bytes_eq word (codes "enlist") then Some k.Enlist
-    else if bytes_eq word (codes "resume") then Some k.Resume
-    else if bytes_eq word (codes "assert") then Some k.Assert
-    else if bytes_eq word (codes "status") then Some k.Status
-    else None
+    else keyword_of_six_later word
 
 -- those of seven letters
 abbrev pub keyword_of_seven : List ℕ → Option Keyword

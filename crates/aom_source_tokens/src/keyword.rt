@@ -1,6 +1,6 @@
 //! The keywords of the language.
 ghost use Rattle.std.specs.Prelude.{◌≡◌};
-ghost use Rattle.aom_source_tokens.specs.Keywords.{keyword_of, keyword_of_two, keyword_of_three, keyword_of_four, keyword_of_five, keyword_of_six, keyword_of_seven, keyword_of_eight, keyword_of_nine};
+ghost use Rattle.aom_source_tokens.specs.Keywords.{keyword_of, keyword_of_two, keyword_of_three, keyword_of_four, keyword_of_four_later, keyword_of_five, keyword_of_five_later, keyword_of_six, keyword_of_six_later, keyword_of_seven, keyword_of_eight, keyword_of_nine};
 
 /// A word of the language, which is no name.
 #[derive(Clone, Copy, PartialEq, Eq, Debug)]
@@ -153,7 +153,15 @@ impl Keyword {
             Some(Keyword::Trap)
         } else if word == b"take".as_slice() {
             Some(Keyword::Take)
-        } else if word == b"hand".as_slice() {
+        } else {
+            Keyword::of_four_later(word)
+        }
+    }
+
+    fn of_four_later(word: &[u8]) -> Option<Keyword>
+        ensures { result ≡ keyword_of_four_later word.now }
+    {
+        if word == b"hand".as_slice() {
             Some(Keyword::Hand)
         } else if word == b"none".as_slice() {
             Some(Keyword::NoObject)
@@ -185,7 +193,15 @@ impl Keyword {
             Some(Keyword::Break)
         } else if word == b"leave".as_slice() {
             Some(Keyword::Leave)
-        } else if word == b"print".as_slice() {
+        } else {
+            Keyword::of_five_later(word)
+        }
+    }
+
+    fn of_five_later(word: &[u8]) -> Option<Keyword>
+        ensures { result ≡ keyword_of_five_later word.now }
+    {
+        if word == b"print".as_slice() {
             Some(Keyword::Print)
         } else if word == b"after".as_slice() {
             Some(Keyword::After)
@@ -227,7 +243,15 @@ impl Keyword {
             Some(Keyword::Delete)
         } else if word == b"enlist".as_slice() {
             Some(Keyword::Enlist)
-        } else if word == b"resume".as_slice() {
+        } else {
+            Keyword::of_six_later(word)
+        }
+    }
+
+    fn of_six_later(word: &[u8]) -> Option<Keyword>
+        ensures { result ≡ keyword_of_six_later word.now }
+    {
+        if word == b"resume".as_slice() {
             Some(Keyword::Resume)
         } else if word == b"assert".as_slice() {
             Some(Keyword::Assert)

@@ -1,8 +1,6 @@
 use Rattle.std.proofs.Common.{ℕ, ◌≡◌, ◌<◌, ◌+◌, ◌≤◌, ◌-◌, length}
 use Rattle.aom_source_syntax.specs.Programs.{depth_at}
 use Rattle.aom_source_syntax.specs.Reading.{Stands}
-use Rattle.aom_source_syntax.proofs.Standing.{stands_first}
-use Rattle.aom_source_syntax.proofs.Weights.{lead_of}
 use Rattle.aom_source_syntax.proofs.reader.read.Given as goal
 
 abbrev pub invariant-loop-reader : goal.invariant-loop-reader

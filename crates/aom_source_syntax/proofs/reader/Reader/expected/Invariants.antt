@@ -1,4 +1,3 @@
-use Rattle.std.proofs.Common.{◌≡◌}
 use Rattle.aom_source_syntax.specs.Reading.{Stands}
 use Rattle.aom_source_syntax.proofs.Weights.{lead_of}
 use Rattle.aom_source_syntax.proofs.reader.Reader.expected.Given as goal

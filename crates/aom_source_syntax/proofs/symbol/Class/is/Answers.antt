@@ -8,8 +8,7 @@ use Rattle.aom_source_syntax.proofs.symbol.Class.is.Goals as goal
 pub returns-in-Keyword-Keyword : goal.returns-in-Keyword-Keyword
 returns-in-Keyword-Keyword g =
     let a = g.in-Keyword-Keyword in
-    let same : g.args.self ≡ g.args.other → a.keyword ≡ a.other = λ e. cc (e, a.is-0, a.is-1) in
-    (
+    let same : g.args.self ≡ g.args.other → a.keyword ≡ a.other = λ e. cc (e, a.is-0, a.is-1) in (
       λ t. a.is-0 ∙ ap (λ (x : Keyword). c.Keyword x) (same_true the_type tt a.keyword a.other (sym g.eq.ensures ∙ t)) ∙ sym a.is-1,
       λ e. g.eq.ensures ∙ true_same the_type a.keyword a.other (same e),
     )
