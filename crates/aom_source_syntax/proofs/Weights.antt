@@ -1,5 +1,5 @@
 -- Each production's symbols weigh less than its part, up to the first that takes a token for sure: so the reader comes to a token.
-use Rattle.std.proofs.Common.{ℕ, Bool, true, false, not, ◌&&◌, ◌||◌, List, [], ◌∷◌, ◌++◌, ◌≡◌, ◌+◌, ◌<◌, ◌≤◌, ◌∙◌, refl, sym, ap, subst, map, arith, Option, Some, None, nat_lt, cond, if◌then◌else◌}
+use Rattle.std.proofs.Common.{ℕ, Bool, true, false, not, ◌&&◌, ◌||◌, List, [], ◌∷◌, ◌++◌, ◌≡◌, ◌+◌, ◌<◌, ◌≤◌, refl, sym, ap, subst, map, arith, Option, Some, None, nat_lt, cond}
 use Rattle.std.proofs.lemmas.Bool.Decides.{nat_tests}
 use Rattle.aom_source_tokens.specs.declared.keyword.Keyword.TheVariants as k
 use Rattle.aom_source_tokens.specs.declared.mark.Mark.TheVariants as m

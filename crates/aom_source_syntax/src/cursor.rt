@@ -80,9 +80,8 @@ fn depth_behind(depth: u32, class: Class) -> u32
 {
     match class {
         Class::Mark(Mark::OpenParenthesis) | Class::Mark(Mark::OpenBrace) => depth + 1,
-        Class::Mark(Mark::CloseParenthesis) | Class::Mark(Mark::CloseBrace) => depth.saturating_sub(
-            1,
-        ),
+        Class::Mark(Mark::CloseParenthesis) => depth.saturating_sub(1),
+        Class::Mark(Mark::CloseBrace) => depth.saturating_sub(1),
         _ => depth,
     }
 }

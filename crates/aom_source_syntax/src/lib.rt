@@ -50,6 +50,8 @@ mod reader;
 mod stack;
 mod statements;
 mod symbol;
+#[cfg(test)]
+mod tests;
 
 pub use declarations::DeclarationPart;
 pub use expressions::ExpressionPart;
