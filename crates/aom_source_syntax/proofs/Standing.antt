@@ -191,20 +191,20 @@ depth_next text at class found =
     fold_more depth_behind 0 text at class within ∙ ap (λ (x : Class). depth_behind (depth_at text at) x) (get_or_from_slice_get text at class class found)
 
 pub refuses_kind : (text : List Class) (items : List Item) (ws : List Waiting) (at depth : ℕ) (class : Class) (kind : SyntaxFaultKind) → depth ≡ depth_at text at
-    → Stands text items (expecting (Some class) ws) at → Mismatch text at depth class kind → RefusesAs text at kind
-refuses_kind text items ws at depth class (f.Token expected) same h m =
+    → ((k : ℕ) → k < at + 1 → depth_at text k ≤ 64) → Stands text items (expecting (Some class) ws) at → Mismatch text at depth class kind → RefusesAs text at kind
+refuses_kind text items ws at depth class (f.Token expected) same below h m =
     (none_at_token text items ws at class m.1 h, inr (λ found. m.1 (found ∙ ap (λ (x : Class). Some x) m.0)))
-refuses_kind text items ws at depth class (f.Part part) same h m = absurd m
-refuses_kind text items ws at depth class f.TooDeep same h m =
-    (slice_get_within text at class m.0, omega (arith, m.1, depth_next text at class m.0, ap (λ (n : ℕ). depth_behind n class) same))
-refuses_kind text items ws at depth class f.OutOfMemory same h m = absurd m
+refuses_kind text items ws at depth class (f.Part part) same below h m = absurd m
+refuses_kind text items ws at depth class f.TooDeep same below h m =
+    (slice_get_within text at class m.0, omega (arith, m.1, depth_next text at class m.0, ap (λ (n : ℕ). depth_behind n class) same), below)
+refuses_kind text items ws at depth class f.OutOfMemory same below h m = absurd m
 
 -- what refuses a token that is expected refuses the text
 pub refuses_token : (text : List Class) (items : List Item) (ws : List Waiting) (at depth : ℕ) (class : Class) (fault : SyntaxFault) → depth ≡ depth_at text at
-    → fault.token ≡ at → Stands text items (expecting (Some class) ws) at → Mismatch text at depth class fault.kind → Refuses text fault
-refuses_token text items ws at depth class fault same token h m =
+    → ((k : ℕ) → k < at + 1 → depth_at text k ≤ 64) → fault.token ≡ at → Stands text items (expecting (Some class) ws) at → Mismatch text at depth class fault.kind → Refuses text fault
+refuses_token text items ws at depth class fault same below token h m =
     let P : ℕ → Type 0 = λ n. RefusesAs text n fault.kind in
-    subst P (sym token) (refuses_kind text items ws at depth class fault.kind same h m)
+    subst P (sym token) (refuses_kind text items ws at depth class fault.kind same below h m)
 
 pub stands_expecting : (text : List Class) (items : List Item) (ws : List Waiting) (at : ℕ) (old new : Option Class) → old ≡ new → Stands text items (expecting old ws) at
     → Stands text items (expecting new ws) at

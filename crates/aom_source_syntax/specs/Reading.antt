@@ -59,7 +59,7 @@ pub record NoProgram (text : List Class) (at : ℕ) : Type 0 where
 abbrev pub RefusesAs : List Class → ℕ → SyntaxFaultKind → Type 0
 RefusesAs text at (f.Token class) = NoProgram text at × ((class ≡ c.End) ⊎ (slice_get text at ≡ Some class → ⊥))
 RefusesAs text at (f.Part part) = NoProgram text at × (rule part (class_at text at) (class_at text (at + 1)) ≡ None)
-RefusesAs text at f.TooDeep = (at < length text) × (64 < depth_at text (at + 1))
+RefusesAs text at f.TooDeep = (at < length text) × (64 < depth_at text (at + 1)) × ((k : ℕ) → k < at + 1 → depth_at text k ≤ 64)
 RefusesAs text at f.OutOfMemory = Unit {0}
 
 abbrev pub Refuses : List Class → SyntaxFault → Type 0
@@ -98,8 +98,8 @@ IsOnlyProgram text items = (others : List Item) → IsProgram text others → ot
 -- a text has one tree of a program at most
 abbrev pub OneTree : Type 0
 OneTree =
-    (text : List Class) (one two : Trees) → symbols_of one ≡ declaration d.Program ∷ [] → symbols_of two ≡ declaration d.Program ∷ [] → Fits one text 0 → Fits two text 0
-    → one ≡ two
+    (text : List Class) (one two : Trees) → symbols_of one ≡ declaration d.Program ∷ [] → symbols_of two ≡ declaration d.Program ∷ []
+    → Fits one text 0 → Fits two text 0 → one ≡ two
 
 -- and one list of items
 abbrev pub OneProgram : Type 0

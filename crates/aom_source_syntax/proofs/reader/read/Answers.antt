@@ -9,7 +9,7 @@ pub returns-in_err-cursor-clause-refused : goal.returns-in_err-cursor-clause-ref
 returns-in_err-cursor-clause-refused c =
     let fact : Refuses c.args.text.now c.in_err-cursor.field-0.0
     = refuses_token c.args.text.now c.expected.new.self.items.items c.expected.new.self.stack c.loop-reader.cursor.at c.loop-reader.cursor.depth c.in-Some.class _
-    c.loop-reader.invariant.depth c.in_err-cursor.ensures.token
+    c.loop-reader.invariant.depth c.loop-reader.invariant.shallow c.in_err-cursor.ensures.token
     (stands_expecting c.args.text.now _ _ c.loop-reader.cursor.at c.in_ok-class.field-0 _ c.in-Some.is c.in_ok-class.ensures.stands) c.in_err-cursor.ensures.refused in
     search rules
 
