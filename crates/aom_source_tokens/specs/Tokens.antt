@@ -77,7 +77,8 @@ keyword_or_name (Some keyword) word = A_keyword keyword
 keyword_or_name None word = A_name word
 
 abbrev pub lexed_word : List ℕ → Word × ℕ
-lexed_word bytes = (keyword_or_name (keyword_of (take (length_of is_name_byte bytes) bytes)) (take (length_of is_name_byte bytes) bytes), length_of is_name_byte bytes)
+lexed_word bytes =
+    (keyword_or_name (keyword_of (take (length_of is_name_byte bytes) bytes)) (take (length_of is_name_byte bytes) bytes), length_of is_name_byte bytes)
 
 abbrev pub short_mark : Option Mark → Lexed
 short_mark (Some mark) = Ok (A_mark mark, 1)

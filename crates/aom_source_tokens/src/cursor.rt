@@ -54,7 +54,9 @@ impl<'a> Cursor<'a> {
 
     /// The token that begins here, which is read.
     pub fn next(&mut self) -> Result<Token<'a>, TokenFault>
-        ensures token { MatchResult result (λ t. lexed self.old.bytes ≡ Ok (word_of t.kind, size_of (lexed self.old.bytes))) (λ f. lexed self.old.bytes ≡ Err f.kind) }
+        ensures token { MatchResult result
+            (λ t. lexed self.old.bytes ≡ Ok (word_of t.kind, size_of (lexed self.old.bytes)))
+            (λ f. lexed self.old.bytes ≡ Err f.kind) }
         ensures within { OnOk result (size_of (lexed self.old.bytes) ≤ length self.old.bytes) }
         ensures place { MatchResult result (λ t. t.place ≡ self.old.place) (λ f. f.place ≡ self.old.place) }
         ensures rest { OnOk result (self.new ≡ skipped (passed (size_of (lexed self.old.bytes)) self.old)) }

@@ -18,7 +18,7 @@ impl Place {
     };
 
     /// The place behind a byte that stands here.
-    pub fn behind(self, byte: u8) -> Place
+    pub(crate) fn behind(self, byte: u8) -> Place
         requires at { self.at < 2 ^ 31 }
         requires line { self.line + self.column < 2 ^ 31 }
         ensures behind { result ≡ place_behind self byte }
@@ -41,7 +41,7 @@ impl Place {
     }
 
     /// The place behind bytes of which the first stands here.
-    pub fn after(self, bytes: &[u8]) -> Place
+    pub(crate) fn after(self, bytes: &[u8]) -> Place
         requires at { self.at + length bytes.now < 2 ^ 31 }
         requires line { self.line + self.column + 2 * length bytes.now < 2 ^ 31 }
         ensures after { result ≡ place_after self bytes.now }
