@@ -3,7 +3,7 @@
 import form
 
 # the ending of the files that an argument or an option's value names
-ENDINGS = {"IMAGE": "image", "SCRIPT": "script", "TEXT": "aom"}
+ENDINGS = {"IMAGE": "image", "SCRIPT": "script", "TEXT": "aom", "SOURCE": "ao"}
 MADE = "made by tools/manual"
 
 

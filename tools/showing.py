@@ -10,6 +10,8 @@ from batches import FUNCTION
 
 FALSE, OPEN, LOST = "a goal that is false at a case", "an open goal of its contract", "a proof that is lost"
 KINDS = (FALSE, OPEN, LOST)
+# of so many edits one may be open
+OPEN_IS_ONE_OF = 4
 # what a proof written by hand is refused for, with the goal that it answers
 REFUSED = re.compile(r"(?:\./)?((?:proofs|specs)/\S+)/[^/ ]+\.antt:\d+:\d+: error: (.*)")
 ANSWERED = re.compile(r"`([^`]*)`: (.*)")
@@ -114,6 +116,11 @@ def said_in_batch(lines, turned):
 def said_alone(lines):
     """What a check says of an edit that it tries alone: all that it says is of this one."""
     return list(own_messages(lines, None, lambda path: True))
+
+
+def most_open(count):
+    """How many of so many edits may be open."""
+    return count // OPEN_IS_ONE_OF
 
 
 def kind_by(said):

@@ -12,7 +12,7 @@ from copies import copies_of, is_closed_case, is_of_copies, texts_beside
 from edit_files import edit_faults, edit_files, places_of, read_edit, write_text
 from holes import make_holes
 from house import PARTS, copy_parts, tells_errors
-from showing import FALSE, KINDS as SHOWN, LOST, OPEN, kind_by, said_alone, said_in_batch
+from showing import FALSE, KINDS as SHOWN, LOST, OPEN, kind_by, most_open, said_alone, said_in_batch
 from verdicts import Verdicts
 
 # the memory that a check takes for each line of a crate, in bytes
@@ -40,6 +40,7 @@ class Trial:
         self.proved, self.given_up = set(), set()
         # what is kept of a crate is read or replaced by one check at a time
         self.lock, self.moving = threading.Lock(), threading.Lock()
+        self.is_of_all = set(names) == set(house.direct)
         self.names = [it for it in names if any(edit_files(house.folder(it)))]
         self.known = {it: self.known_of(it) for it in self.names}
         self.weight = {it: house.lines(it) for it in self.names}
@@ -115,13 +116,26 @@ class Trial:
         it = f"{name}/{edit}"
         self.verdicts.keep_refused(name, edit, self.kinds[it], self.said.get(it, []))
 
+    def count_of(self, kind):
+        """How many of the edits that are refused are so by this kind of what a check says."""
+        return sum(self.kinds.get(it) == kind for it in self.passed)
+
     def counts(self):
-        """How many of the edits that are refused are so by each kind of what a check says, and which of them no page, test or closed case shows where they
-        want one."""
+        """How many of the edits that are refused are so by each kind of what a check says."""
         for kind in SHOWN:
-            yield f"edits refused by {kind}: {sum(self.kinds.get(it) == kind for it in self.passed)}"
-        unshown = sorted(it for it in self.unshown if it in self.passed)
-        yield f"edits that are lost, and no page, test or closed case shows them: {len(unshown)} {' '.join(unshown)}".rstrip()
+            yield f"edits refused by {kind}: {self.count_of(kind)}"
+
+    def shown(self):
+        """How many edits are refused, and shown where their proof is lost."""
+        return sum(it not in self.unshown for it in self.passed)
+
+    def faults(self):
+        """What is wrong with edits that are refused, each in words: one that is lost wants what shows it, and of all edits no more than a part may be open."""
+        for it in sorted(it for it in self.unshown if it in self.passed):
+            yield f"must-fail {it}: its proof is lost, and no page, test or closed case shows it"
+        most = most_open(len(self.passed) + len(self.failed) + len(self.untried))
+        if self.is_of_all and self.count_of(OPEN) > most:
+            yield f"{self.count_of(OPEN)} edits are refused by {OPEN} alone, and of all at most {most} may be"
 
     def checked(self, kind, name, folder, functions, kept):
         """A check of a crate's copy; its time is counted."""

@@ -78,14 +78,16 @@ def keep_in(folder, file, told):
 
 
 class Verdicts:
-    """The verdicts on the edits of a house. An edit is known by its name and text, and by each text that a check of its crate reads."""
+    """The verdicts on the edits of a house. An edit is known by its name and by what it changes, whatever page shows it, and by each text that a check of
+    its crate reads."""
 
     def __init__(self, house, at, anew=False):
         self.house, self.at, self.anew = house, at, anew
         self.sums = Sums(house, TOOLS)
 
     def file_of(self, name, edit):
-        key = hashlib.sha256(self.sums.sum_of(name) + edit.encode() + b"\n" + read_bytes(f"{self.house.folder(name)}/must-fail/{edit}"))
+        lines = read_bytes(f"{self.house.folder(name)}/must-fail/{edit}").split(b"\n")
+        key = hashlib.sha256(self.sums.sum_of(name) + b"\n".join([edit.encode(), *(it for it in lines if not it.startswith(b"shown: "))]))
         return f"{self.at}/{key.hexdigest()}"
 
     def is_refused(self, name, edit):

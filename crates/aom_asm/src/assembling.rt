@@ -7,6 +7,7 @@ ghost use Rattle.aom_asm.specs.Denoted.{at_line, Answers, read_rest, read_after,
 
 use crate::names::declared_names;
 use crate::program::ParsedProgram;
+use crate::statements::{Statements, list_statements};
 use aom_image::{ClassDecl, Image, Items};
 use aom_syntax::{Keyword, Scope, WordReader};
 use aom_text::{AsmFault, AsmFaultKind, Statement, StatementCursor, last_line};
@@ -27,7 +28,7 @@ fn at_line<T>(line: u32, said: Result<T, AsmFaultKind>) -> Result<T, AsmFault>
 /// Reads all statements of a text.
 fn read_program<'a>(
     alloc: Global,
-    mut text: StatementCursor<'a>,
+    mut text: Statements<'_, 'a>,
     last: u32,
     scope: &Scope,
 ) -> Result<ParsedProgram<'a>, AsmFault>
@@ -46,7 +47,7 @@ fn read_program<'a>(
 fn read_after<'a>(
     alloc: Global,
     first: Statement<'a>,
-    text: StatementCursor<'a>,
+    text: Statements<'_, 'a>,
     last: u32,
     scope: &Scope,
 ) -> Result<ParsedProgram<'a>, AsmFault>
@@ -66,7 +67,7 @@ fn read_after<'a>(
 /// Reads the statements after others.
 fn read_rest<'a>(
     alloc: Global,
-    mut text: StatementCursor<'a>,
+    mut text: Statements<'_, 'a>,
     last: u32,
     scope: &Scope,
     program: &mut ParsedProgram<'a>,
@@ -81,7 +82,7 @@ fn read_rest<'a>(
 }
 
 /// The names of a text, which are not told apart yet.
-fn scope_of<'a>(alloc: Global, text: &StatementCursor<'a>) -> Result<Scope<'a>, AllocError>
+fn scope_of<'a>(alloc: Global, text: &Statements<'_, 'a>) -> Result<Scope<'a>, AllocError>
     ensures { IfOk result (λ s. s ≡ scope_of false text.now []) }
 {
     let classes = declared_names(alloc, text.again(), Keyword::Class)?;
@@ -94,7 +95,7 @@ fn scope_of<'a>(alloc: Global, text: &StatementCursor<'a>) -> Result<Scope<'a>, 
     })
 }
 
-fn named<'a>(alloc: Global, text: &StatementCursor<'a>) -> Result<Scope<'a>, AsmFaultKind>
+fn named<'a>(alloc: Global, text: &Statements<'_, 'a>) -> Result<Scope<'a>, AsmFaultKind>
     ensures { ReadsOrNoMemory (λ s. s) result (Ok (scope_of false text.now [])) }
 {
     Ok(scope_of(alloc, text)?)
@@ -103,7 +104,7 @@ fn named<'a>(alloc: Global, text: &StatementCursor<'a>) -> Result<Scope<'a>, Asm
 /// Reads the statements first, whatever the names, and then with the names.
 fn read_statements<'a>(
     alloc: Global,
-    text: StatementCursor<'a>,
+    text: Statements<'_, 'a>,
     last: u32,
 ) -> Result<ParsedProgram<'a>, AsmFault>
     ensures { Answers image_of result (read_statements last text.entry) }
@@ -118,7 +119,7 @@ fn read_again<'a>(
     alloc: Global,
     mut scope: Scope<'a>,
     kinds: Items<ClassDecl>,
-    text: StatementCursor<'a>,
+    text: Statements<'_, 'a>,
     last: u32,
 ) -> Result<ParsedProgram<'a>, AsmFault>
     ensures { Answers (λ p. p) result (read_program last (record scope.entry { is_strict = true; kinds = kinds }) text.entry) }
@@ -138,6 +139,14 @@ fn last_line_of(text: &[u8]) -> u32
     last_line(text).max(1)
 }
 
+/// The statements of a text.
+fn found<'a>(alloc: Global, text: &'a [u8]) -> Result<Vec<Statement<'a>>, AsmFaultKind>
+    requires { length text.now ≤ 2 ^ 20 }
+    ensures { ReadsOrNoMemory (λ v. v.items) result (Ok (statements text.now)) }
+{
+    Ok(list_statements(alloc, StatementCursor::of(text))?)
+}
+
 /// Reads a text that is not too long.
 fn read_text<'a>(alloc: Global, text: &'a [u8]) -> Result<ParsedProgram<'a>, AsmFault>
     ensures { Answers image_of result (denoted text.now) }
@@ -148,7 +157,9 @@ fn read_text<'a>(alloc: Global, text: &'a [u8]) -> Result<ParsedProgram<'a>, Asm
             kind: AsmFaultKind::LimitPassed,
         });
     }
-    read_statements(alloc, StatementCursor::of(text), last_line_of(text))
+    let last = last_line_of(text);
+    let statements = at_line(last, found(alloc, text))?;
+    read_statements(alloc, Statements::of(statements.as_slice()), last)
 }
 
 /// The image that a text denotes. A text that denotes none has a fault, with the line of the first.

@@ -10,5 +10,6 @@ mod assembling;
 mod body;
 mod names;
 mod program;
+mod statements;
 
 pub use assembling::assemble;

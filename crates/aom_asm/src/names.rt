@@ -2,8 +2,9 @@
 ghost use Rattle.std.specs.Prelude.{◌≡◌, [], IfOk, option_map};
 ghost use Rattle.aom_asm.specs.TextNames.{name_after, declared_names, is_end, label_in, labels_of};
 
+use crate::statements::Statements;
 use aom_syntax::{Keyword, NameList, label_of};
-use aom_text::{StatementCursor, WordCursor};
+use aom_text::WordCursor;
 use std::alloc::{AllocError, Global};
 
 /// The name behind a keyword, where a statement begins with it.
@@ -25,7 +26,7 @@ fn name_after<'a>(key: Keyword, mut words: WordCursor<'a>) -> Option<&'a [u8]>
 /// The names behind a keyword, in the order of the statements.
 pub fn declared_names<'a>(
     alloc: Global,
-    mut text: StatementCursor<'a>,
+    mut text: Statements<'_, 'a>,
     key: Keyword,
 ) -> Result<NameList<'a>, AllocError>
     ensures { IfOk result (λ n. n ≡ declared_names key [] text.entry) }
@@ -64,7 +65,7 @@ fn is_end(words: &WordCursor) -> bool
 /// The labels of the statements up to `end`, an empty one where there is none.
 pub fn labels_of<'a>(
     alloc: Global,
-    mut text: StatementCursor<'a>,
+    mut text: Statements<'_, 'a>,
 ) -> Result<NameList<'a>, AllocError>
     ensures { IfOk result (λ n. n ≡ labels_of [] text.entry) }
 {

@@ -6,9 +6,10 @@ ghost use Rattle.aom_asm.specs.Denoted.{grown, opened, with_class, with_heading,
 
 use crate::body::Body;
 use crate::names::labels_of;
+use crate::statements::Statements;
 use aom_image::{ClassDecl, Header, Image, Items, Method};
 use aom_syntax::{Keyword, Scope, WordReader};
-use aom_text::{AsmFaultKind, StatementCursor};
+use aom_text::AsmFaultKind;
 use std::alloc::Global;
 use std::marker::Model;
 
@@ -111,7 +112,7 @@ impl<'a> ParsedProgram<'a> {
         alloc: Global,
         scope: &Scope,
         reader: &mut WordReader<'a>,
-        text: &StatementCursor<'a>,
+        text: &Statements<'_, 'a>,
     ) -> Result<(), AsmFaultKind>
         ensures { ReadsOrNoMemory (λ _. self.new) result (with_heading scope.now text.now self.old reader.old) }
     {
@@ -163,7 +164,7 @@ impl<'a> ParsedProgram<'a> {
         alloc: Global,
         scope: &Scope,
         reader: WordReader<'a>,
-        text: &StatementCursor<'a>,
+        text: &Statements<'_, 'a>,
     ) -> Result<(), AsmFaultKind>
         ensures { ReadsOrNoMemory (λ _. self.new) result (step scope.now text.now self.old reader.entry) }
     {
@@ -194,7 +195,7 @@ impl<'a> ParsedProgram<'a> {
         alloc: Global,
         scope: &Scope,
         mut reader: WordReader<'a>,
-        text: &StatementCursor<'a>,
+        text: &Statements<'_, 'a>,
     ) -> Result<(), AsmFaultKind>
         ensures { ReadsOrNoMemory (λ _. self.new) result (step_by None scope.now text.now self.old reader.entry) }
     {

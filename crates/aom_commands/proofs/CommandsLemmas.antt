@@ -4,4 +4,5 @@ pub use Rattle.aom_commands.proofs.Boxes.{Made, all_made, none_made, one_more_ma
 pub use Rattle.aom_commands.proofs.Reporting.{unaccepted, unscripted}
 pub use Rattle.aom_commands.proofs.Tries.{given_all, has_enough, wants_memory}
 pub use Rattle.aom_commands.proofs.Meaning.{makes, means_nothing}
+pub use Rattle.aom_commands.proofs.Sending.{cut}
 pub use Rattle.aom_commands.proofs.Untelling.{answered}

@@ -35,6 +35,10 @@ pub record Sent : Type 0 where
   pub now : Option (List ℕ)
   pub failed : Bool
 
+-- what a sink says of itself before a call and after it
+abbrev pub over : {S : Type 0} → (out : S → Option (List ℕ)) → (failed : S → Bool) → (old new : S) → Sent
+over out failed old new = record { before = out old; now = out new; failed = failed new }
+
 -- nothing went out
 abbrev pub IsSilent : Sent → Type 0
 IsSilent sent = sent.now ≡ sent.before

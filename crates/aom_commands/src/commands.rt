@@ -3,11 +3,10 @@ ghost use Rattle.std.specs.Prelude.{ℕ, ◌≤◌, IfErr, IfOk, List, length};
 ghost use Rattle.aom_natives.specs.Owed.{OweNothing};
 ghost use Rattle.aom_commands.specs.Acceptable.{IsSerialized};
 ghost use Rattle.aom_transcript.specs.Naming.{named_by};
-ghost use Rattle.aom_commands.specs.Headline.{AcceptedAnswers, EndsOrFails, RunAnswers, RunAnswersBy, CheckAnswers, Sends};
+ghost use Rattle.aom_commands.specs.Headline.{AcceptedAnswers, EndsOrFails, RunAnswers, RunAnswersBy, CheckAnswers, Sends, over};
 ghost use Rattle.aom_commands.specs.Prices.{Checks, ChecksBy, PricesAnswers};
 ghost use Rattle.aom_commands.specs.Translations.{DrawsBy, IsTranslation, RefusesFile, Translates};
 ghost use Rattle.aom_commands.specs.Unreported.{Unreported};
-ghost use Rattle.aom_commands.specs.declared.commands.Translation.TheVariants.{Asm, Dis, Dot};
 
 use crate::accepting::accept_bytes;
 use crate::assembling::{assemble_bytes, disassemble_bytes};
@@ -37,30 +36,17 @@ pub fn run_bytes<W: Sink, E: Sink>(
 ) -> ExitStatus
     requires limit { (1 ≤ limit) × (limit ≤ 1000000000) }
     requires owed { OweNothing (λ b. (⟦<dyn Native as Native>⟧ b.vtable).owed b.value) boxes.items }
-    ensures { RunAnswers image.now script.now limit (length boxes.items) (record { before = W.out out.old; now = W.out out.new; failed = W.failed out.new }) (record { before = E.out errors.old; now = E.out errors.new; failed = E.failed errors.new }) result }
+    ensures { RunAnswers image.now script.now limit (length boxes.items) (over W.out W.failed out.old out.new) (over E.out E.failed errors.old errors.new) result }
 {
-    answer(try_run(alloc, image, script, limit, boxes, out), errors)
-}
-
-/// Runs an image as `run_bytes` does, and leaves its fault to be told.
-pub fn try_run<W: Sink>(
-    alloc: Global,
-    image: &[u8],
-    script: &[u8],
-    limit: u32,
-    boxes: Vec<Box<dyn Native>>,
-    out: &mut W,
-) -> Result<ExitStatus, Fault>
-    requires limit { (1 ≤ limit) × (limit ≤ 1000000000) }
-    requires owed { OweNothing (λ b. (⟦<dyn Native as Native>⟧ b.vtable).owed b.value) boxes.items }
-    ensures { Unreported (RunAnswers image.now script.now limit (length boxes.items) (record { before = W.out out.old; now = W.out out.new; failed = W.failed out.new })) result }
-{
-    try_run_named(alloc, image, script, limit, boxes, None, out)
+    answer(
+        try_run(alloc, image, script, limit, boxes, None, out),
+        errors,
+    )
 }
 
 /// Runs an image as `run_bytes` does, writes classes by these names, if there are some, and leaves its fault to be told. The first name
 /// is that of class 0; a class that has none is written by its number.
-pub fn try_run_named<W: Sink>(
+pub fn try_run<W: Sink>(
     alloc: Global,
     image: &[u8],
     script: &[u8],
@@ -71,7 +57,7 @@ pub fn try_run_named<W: Sink>(
 ) -> Result<ExitStatus, Fault>
     requires limit { (1 ≤ limit) × (limit ≤ 1000000000) }
     requires owed { OweNothing (λ b. (⟦<dyn Native as Native>⟧ b.vtable).owed b.value) boxes.items }
-    ensures { Unreported (RunAnswersBy (named_by names.entry) image.now script.now limit (length boxes.items) (record { before = W.out out.old; now = W.out out.new; failed = W.failed out.new })) result }
+    ensures { Unreported (RunAnswersBy (named_by names.entry) image.now script.now limit (length boxes.items) (over W.out W.failed out.old out.new)) result }
 {
     match accept_bytes(alloc, image) {
         Ok(accepted) => {
@@ -95,7 +81,7 @@ fn run_text<W: Sink>(
 ) -> Result<ExitStatus, Fault>
     requires limit { (1 ≤ limit) × (limit ≤ 1000000000) }
     requires owed { OweNothing (λ b. (⟦<dyn Native as Native>⟧ b.vtable).owed b.value) boxes.items }
-    ensures { (bytes : List ℕ) → IsSerialized bytes accepted.now → Unreported (AcceptedAnswers (named_by names.entry) bytes text.now limit (length boxes.items) (record { before = W.out out.old; now = W.out out.new; failed = W.failed out.new })) result }
+    ensures { (bytes : List ℕ) → IsSerialized bytes accepted.now → Unreported (AcceptedAnswers (named_by names.entry) bytes text.now limit (length boxes.items) (over W.out W.failed out.old out.new)) result }
 {
     accepted.facts();
     runs_well(accepted);
@@ -126,7 +112,7 @@ pub fn check_bytes<W: Sink, E: Sink>(
     out: &mut W,
     errors: &mut E,
 ) -> ExitStatus
-    ensures { CheckAnswers image.now (record { before = W.out out.old; now = W.out out.new; failed = W.failed out.new }) (record { before = E.out errors.old; now = E.out errors.new; failed = E.failed errors.new }) result }
+    ensures { CheckAnswers image.now (over W.out W.failed out.old out.new) (over E.out E.failed errors.old errors.new) result }
 {
     reported(alloc, image, false, out, errors)
 }
@@ -138,7 +124,7 @@ pub fn prices_bytes<W: Sink, E: Sink>(
     out: &mut W,
     errors: &mut E,
 ) -> ExitStatus
-    ensures { PricesAnswers image.now (record { before = W.out out.old; now = W.out out.new; failed = W.failed out.new }) (record { before = E.out errors.old; now = E.out errors.new; failed = E.failed errors.new }) result }
+    ensures { PricesAnswers image.now (over W.out W.failed out.old out.new) (over E.out E.failed errors.old errors.new) result }
 {
     reported(alloc, image, true, out, errors)
 }
@@ -151,32 +137,21 @@ fn reported<W: Sink, E: Sink>(
     out: &mut W,
     errors: &mut E,
 ) -> ExitStatus
-    ensures { Checks prices image.now (record { before = W.out out.old; now = W.out out.new; failed = W.failed out.new }) (record { before = E.out errors.old; now = E.out errors.new; failed = E.failed errors.new }) result }
+    ensures { Checks prices image.now (over W.out W.failed out.old out.new) (over E.out E.failed errors.old errors.new) result }
 {
-    answer(try_check(alloc, image, prices, out), errors)
+    let found = try_check(alloc, image, &Names::none(), prices, out);
+    answer(found, errors)
 }
 
-/// Checks an image as `check_bytes` or `prices_bytes` does, and leaves its fault to be told.
+/// Checks an image as `check_bytes` or `prices_bytes` does, tells its figures by those names, and leaves its fault to be told.
 pub fn try_check<W: Sink>(
-    alloc: Global,
-    image: &[u8],
-    prices: bool,
-    out: &mut W,
-) -> Result<ExitStatus, Fault>
-    ensures { Unreported (Checks prices image.now (record { before = W.out out.old; now = W.out out.new; failed = W.failed out.new })) result }
-{
-    try_check_named(alloc, image, &Names::none(), prices, out)
-}
-
-/// Checks an image so, and tells its figures by those names.
-pub fn try_check_named<W: Sink>(
     alloc: Global,
     image: &[u8],
     names: &Names,
     prices: bool,
     out: &mut W,
 ) -> Result<ExitStatus, Fault>
-    ensures { Unreported (ChecksBy names.now prices image.now (record { before = W.out out.old; now = W.out out.new; failed = W.failed out.new })) result }
+    ensures { Unreported (ChecksBy names.now prices image.now (over W.out W.failed out.old out.new)) result }
 {
     if prices {
         return try_prices(alloc, image, names, out);
@@ -186,7 +161,7 @@ pub fn try_check_named<W: Sink>(
 
 /// Tells whether an image is accepted, and no more.
 fn try_verdict<W: Sink>(alloc: Global, image: &[u8], out: &mut W) -> Result<ExitStatus, Fault>
-    ensures { Unreported (CheckAnswers image.now (record { before = W.out out.old; now = W.out out.new; failed = W.failed out.new })) result }
+    ensures { Unreported (CheckAnswers image.now (over W.out W.failed out.old out.new)) result }
 {
     match accept_bytes(alloc, image) {
         Ok(_accepted) => try_send(b"accepted\n", out),
@@ -205,63 +180,27 @@ pub enum Translation {
     Dot,
 }
 
-/// Writes the bytes of the image that an assembly text denotes.
-pub fn asm_bytes<W: Sink, E: Sink>(
-    alloc: Global,
-    text: &[u8],
-    out: &mut W,
-    errors: &mut E,
-) -> ExitStatus
-    ensures { Translates Asm text.now (record { before = W.out out.old; now = W.out out.new; failed = W.failed out.new }) (record { before = E.out errors.old; now = E.out errors.new; failed = E.failed errors.new }) result }
-{
-    translate(alloc, Translation::Asm, text, out, errors)
-}
-
-/// Writes the listing of an image, which need not be accepted.
-pub fn dis_bytes<W: Sink, E: Sink>(
-    alloc: Global,
-    image: &[u8],
-    out: &mut W,
-    errors: &mut E,
-) -> ExitStatus
-    ensures { Translates Dis image.now (record { before = W.out out.old; now = W.out out.new; failed = W.failed out.new }) (record { before = E.out errors.old; now = E.out errors.new; failed = E.failed errors.new }) result }
-{
-    translate(alloc, Translation::Dis, image, out, errors)
-}
-
-/// Writes the graph of an image in Graphviz's language. One that its budgets or its limits alone refuse is drawn too.
-pub fn dot_bytes<W: Sink, E: Sink>(
-    alloc: Global,
-    image: &[u8],
-    out: &mut W,
-    errors: &mut E,
-) -> ExitStatus
-    ensures { Translates Dot image.now (record { before = W.out out.old; now = W.out out.new; failed = W.failed out.new }) (record { before = E.out errors.old; now = E.out errors.new; failed = E.failed errors.new }) result }
-{
-    translate(alloc, Translation::Dot, image, out, errors)
-}
-
 /// Writes what a file is translated to.
-fn translate<W: Sink, E: Sink>(
+pub fn translate_bytes<W: Sink, E: Sink>(
     alloc: Global,
     to: Translation,
     file: &[u8],
     out: &mut W,
     errors: &mut E,
 ) -> ExitStatus
-    ensures { Translates to file.now (record { before = W.out out.old; now = W.out out.new; failed = W.failed out.new }) (record { before = E.out errors.old; now = E.out errors.new; failed = E.failed errors.new }) result }
+    ensures { Translates to file.now (over W.out W.failed out.old out.new) (over E.out E.failed errors.old errors.new) result }
 {
     answer(try_translate(alloc, to, file, out), errors)
 }
 
-/// Translates a file as `asm_bytes`, `dis_bytes` or `dot_bytes` does, and leaves its fault to be told.
-pub fn try_translate<W: Sink>(
+/// Translates a file, and leaves its fault to be told.
+fn try_translate<W: Sink>(
     alloc: Global,
     to: Translation,
     file: &[u8],
     out: &mut W,
 ) -> Result<ExitStatus, Fault>
-    ensures { Unreported (Translates to file.now (record { before = W.out out.old; now = W.out out.new; failed = W.failed out.new })) result }
+    ensures { Unreported (Translates to file.now (over W.out W.failed out.old out.new)) result }
 {
     match translated(alloc, to, file) {
         Ok(text) => try_send(&text, out),
@@ -276,7 +215,7 @@ pub fn try_draw<W: Sink>(
     names: &Names,
     out: &mut W,
 ) -> Result<ExitStatus, Fault>
-    ensures { Unreported (DrawsBy names.now image.now (record { before = W.out out.old; now = W.out out.new; failed = W.failed out.new })) result }
+    ensures { Unreported (DrawsBy names.now image.now (over W.out W.failed out.old out.new)) result }
 {
     match draw_bytes(alloc, names, image) {
         Ok(graph) => try_send(&graph, out),
@@ -298,7 +237,7 @@ fn translated(alloc: Global, to: Translation, file: &[u8]) -> Result<Vec<u8>, Fa
 
 /// Writes a text to the output. That this fails is left to be told.
 fn try_send<W: Sink>(text: &[u8], out: &mut W) -> Result<ExitStatus, Fault>
-    ensures { Unreported (λ errors status. Sends text.now status (record { before = W.out out.old; now = W.out out.new; failed = W.failed out.new }) errors) result }
+    ensures { Unreported (λ errors status. Sends text.now status (over W.out W.failed out.old out.new) errors) result }
 {
     write_text(out, text);
     if out.has_failed() {

@@ -10,18 +10,18 @@ ghost use Rattle.aom_fault_injection.specs.Planned.{AreTimes};
 ghost use Rattle.aom_commands.specs.Acceptable.{IsSerialized};
 ghost use Rattle.aom_commands.specs.Beside.{AllNew, AreNew};
 ghost use Rattle.aom_commands.specs.Explored.{AcceptedExplores, Begun, BreaksOff, ExploreAnswers, Explored, HasPlain, IsLast, Plans, RefusesTry, Tried, TriesAll, closing, kept_text, tried_line};
-ghost use Rattle.aom_commands.specs.Headline.{HasNatives, IsFreshOf, RefusesBoot, Says, outside_of};
+ghost use Rattle.aom_commands.specs.Headline.{HasNatives, IsFreshOf, RefusesBoot, Says, outside_of, over};
 ghost use Rattle.aom_commands.specs.Unreported.{Unreported};
 
 use crate::accepting::accept_bytes;
 use crate::collecting_sink::CollectingSink;
 use crate::faults::answer;
-use crate::running::{booted, line_buffer, runs_well};
+use crate::running::{booted, runs_well};
 use crate::{ExitStatus, Fault, report};
 use aom_budget::Accepted;
 use aom_fault_injection::{Injection, OutcomeCounts, Plan, Tries, times_of};
 use aom_natives::{Counter, Delay, Line, Native, NativeKind};
-use aom_run::{HostedMachine, Outcome, run};
+use aom_run::{HostedMachine, Outcome, line_buffer, run};
 use aom_script::{Script, read_script};
 use aom_transcript::{Ending, Page, Sink, write_text};
 use std::alloc::{AllocError, Global};
@@ -218,7 +218,7 @@ fn try_one<W: Sink>(
     requires timely { IsTimely trial.now.script.now.timed }
     requires can { CanInject injection }
     requires enough { HasNatives trial.now.accepted.now (length trial.now.kinds.now) }
-    ensures ok { IfOk result (λ ending. (line : List ℕ) × Tried trial.now.accepted.now trial.now.script.now trial.now.limit (length trial.now.kinds.now) injection ending line × Says line (record { before = W.out out.old; now = W.out out.new; failed = W.failed out.new })) }
+    ensures ok { IfOk result (λ ending. (line : List ℕ) × Tried trial.now.accepted.now trial.now.script.now trial.now.limit (length trial.now.kinds.now) injection ending line × Says line (over W.out W.failed out.old out.new)) }
     ensures err { IfErr result (λ fault. (fault ≡ Fault.Memory) × (W.out out.new ≡ W.out out.old) × (W.failed out.new ≡ W.failed out.old)) }
 {
     let last = last_injected(alloc, trial, injection)?;
@@ -238,8 +238,8 @@ fn try_all<W: Sink>(
     requires timely { IsTimely trial.now.script.now.timed }
     requires can { All CanInject injections.now }
     requires enough { HasNatives trial.now.accepted.now (length trial.now.kinds.now) }
-    ensures ok { IfOk result (λ outcome_counts. TriesAll trial.now.accepted.now trial.now.script.now trial.now.limit (length trial.now.kinds.now) injections.now outcome_counts (record { before = W.out out.old; now = W.out out.new; failed = W.failed out.new })) }
-    ensures err { IfErr result (λ fault. (fault ≡ Fault.Memory) × Begun trial.now.accepted.now trial.now.script.now trial.now.limit (length trial.now.kinds.now) injections.now (record { before = W.out out.old; now = W.out out.new; failed = W.failed out.new })) }
+    ensures ok { IfOk result (λ outcome_counts. TriesAll trial.now.accepted.now trial.now.script.now trial.now.limit (length trial.now.kinds.now) injections.now outcome_counts (over W.out W.failed out.old out.new)) }
+    ensures err { IfErr result (λ fault. (fault ≡ Fault.Memory) × Begun trial.now.accepted.now trial.now.script.now trial.now.limit (length trial.now.kinds.now) injections.now (over W.out W.failed out.old out.new)) }
 {
     let mut outcome_counts = OutcomeCounts::new();
     let mut place = 0;
@@ -258,7 +258,7 @@ fn close<W: Sink>(
     left: Option<Injection>,
     out: &mut W,
 )
-    ensures says { W.failed out.old ≡ false → Says (closing tries left outcome_counts.now) (record { before = W.out out.old; now = W.out out.new; failed = W.failed out.new }) }
+    ensures says { W.failed out.old ≡ false → Says (closing tries left outcome_counts.now) (over W.out W.failed out.old out.new) }
     ensures stays { W.failed out.old ≡ true → (W.out out.new ≡ W.out out.old) × (W.failed out.new ≡ true) }
 {
     if !tries.asks_more() || out.has_failed() {
@@ -278,9 +278,9 @@ fn explore<W: Sink>(
 ) -> Result<(), Fault>
     requires limit { (1 ≤ trial.now.limit) × (trial.now.limit ≤ 1000000000) }
     requires timely { IsTimely trial.now.script.now.timed }
-    ensures ok { IfOk result (λ _. Explored trial.now.accepted.now trial.now.script.now trial.now.limit (length trial.now.kinds.now) tries (record { before = W.out out.old; now = W.out out.new; failed = W.failed out.new })) }
+    ensures ok { IfOk result (λ _. Explored trial.now.accepted.now trial.now.script.now trial.now.limit (length trial.now.kinds.now) tries (over W.out W.failed out.old out.new)) }
     ensures enough { IfOk result (λ _. HasNatives trial.now.accepted.now (length trial.now.kinds.now)) }
-    ensures err { IfErr result (λ fault. BreaksOff trial.now.accepted.now trial.now.script.now trial.now.limit (length trial.now.kinds.now) tries (record { before = W.out out.old; now = W.out out.new; failed = W.failed out.new }) fault) }
+    ensures err { IfErr result (λ fault. BreaksOff trial.now.accepted.now trial.now.script.now trial.now.limit (length trial.now.kinds.now) tries (over W.out W.failed out.old out.new) fault) }
 {
     let plan = plan_of(alloc, trial, tries)?;
     let outcome_counts = try_all(alloc, trial, plan.injections.as_slice(), out)?;
@@ -301,7 +301,7 @@ pub fn explore_bytes<W: Sink, E: Sink>(
     errors: &mut E,
 ) -> ExitStatus
     requires limit { (1 ≤ limit) × (limit ≤ 1000000000) }
-    ensures { ExploreAnswers image.now script.now limit (length kinds.now) tries (record { before = W.out out.old; now = W.out out.new; failed = W.failed out.new }) (record { before = E.out errors.old; now = E.out errors.new; failed = E.failed errors.new }) result }
+    ensures { ExploreAnswers image.now script.now limit (length kinds.now) tries (over W.out W.failed out.old out.new) (over E.out E.failed errors.old errors.new) result }
 {
     match accept_bytes(alloc, image) {
         Ok(accepted) => {
@@ -324,7 +324,7 @@ fn explore_text<W: Sink>(
     out: &mut W,
 ) -> Result<ExitStatus, Fault>
     requires limit { (1 ≤ limit) × (limit ≤ 1000000000) }
-    ensures { (bytes : List ℕ) → IsSerialized bytes accepted.now → Unreported (AcceptedExplores bytes text.now limit (length kinds.now) tries (record { before = W.out out.old; now = W.out out.new; failed = W.failed out.new })) result }
+    ensures { (bytes : List ℕ) → IsSerialized bytes accepted.now → Unreported (AcceptedExplores bytes text.now limit (length kinds.now) tries (over W.out W.failed out.old out.new)) result }
 {
     accepted.facts();
     let script = match read_script(alloc, text) {
@@ -349,7 +349,7 @@ fn explore_script<W: Sink>(
 ) -> Result<ExitStatus, Fault>
     requires limit { (1 ≤ trial.now.limit) × (trial.now.limit ≤ 1000000000) }
     requires timely { IsTimely trial.now.script.now.timed }
-    ensures { (bytes text : List ℕ) → IsSerialized bytes trial.now.accepted.now → denoted text ≡ Ok trial.now.script.now → Unreported (AcceptedExplores bytes text trial.now.limit (length trial.now.kinds.now) tries (record { before = W.out out.old; now = W.out out.new; failed = W.failed out.new })) result }
+    ensures { (bytes text : List ℕ) → IsSerialized bytes trial.now.accepted.now → denoted text ≡ Ok trial.now.script.now → Unreported (AcceptedExplores bytes text trial.now.limit (length trial.now.kinds.now) tries (over W.out W.failed out.old out.new)) result }
 {
     trial.accepted.facts();
     runs_well(trial.accepted);

@@ -20,19 +20,21 @@ pub type FaultLine = Text<LONGEST>;
 pub(crate) fn fault_line(fault: &Fault) -> FaultLine
     ensures { result ≡ ended (fault_line fault.now) }
 {
-    let mut line = fault_text(fault);
+    let mut line = fault.line();
     line.add(b"\n");
     line
 }
 
-/// The words by which a fault is told, without a line feed.
-pub fn fault_text(fault: &Fault) -> FaultLine
-    ensures text { result ≡ fault_line fault.now }
-    ensures short { length result ≤ 92 }
-{
-    let mut line = FaultLine::new();
-    add_fault(&mut line, fault);
-    line
+impl Fault {
+    /// The words by which a fault is told, without a line feed.
+    pub fn line(&self) -> FaultLine
+        ensures text { result ≡ fault_line self.now }
+        ensures short { length result ≤ 92 }
+    {
+        let mut line = FaultLine::new();
+        add_fault(&mut line, self);
+        line
+    }
 }
 
 fn add_fault(line: &mut FaultLine, fault: &Fault)

@@ -1,7 +1,7 @@
 //! What a call is refused for, and how that is told.
 ghost use Rattle.std.specs.Prelude.{◌≡◌};
 ghost use Rattle.aom_commands.specs.Status.{status_of};
-ghost use Rattle.aom_commands.specs.Headline.{Reported};
+ghost use Rattle.aom_commands.specs.Headline.{Reported, over};
 ghost use Rattle.aom_commands.specs.Unreported.{Answered};
 
 use crate::ExitStatus;
@@ -184,7 +184,7 @@ impl<T: Drop> From<AllocFailed<T>> for Fault {
 
 /// Answers the status that a call has come to, or tells its fault.
 pub fn answer<E: Sink>(found: Result<ExitStatus, Fault>, errors: &mut E) -> ExitStatus
-    ensures { Answered found (record { before = E.out errors.old; now = E.out errors.new; failed = E.failed errors.new }) result }
+    ensures { Answered found (over E.out E.failed errors.old errors.new) result }
 {
     match found {
         Ok(status) => status,
@@ -194,7 +194,7 @@ pub fn answer<E: Sink>(found: Result<ExitStatus, Fault>, errors: &mut E) -> Exit
 
 /// Writes a fault's line, and answers its status.
 pub fn report<E: Sink>(fault: &Fault, errors: &mut E) -> ExitStatus
-    ensures { Reported fault.now result (record { before = E.out errors.old; now = E.out errors.new; failed = E.failed errors.new }) }
+    ensures { Reported fault.now result (over E.out E.failed errors.old errors.new) }
 {
     let line = fault_line(fault);
     write_text(errors, line.as_bytes());

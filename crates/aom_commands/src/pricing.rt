@@ -5,7 +5,7 @@ ghost use Rattle.aom_link_conditions.specs.Linked.{IsLinked};
 ghost use Rattle.aom_typing_rules.specs.Typing.{IsTyped, Typing};
 ghost use Rattle.aom_budget.specs.Figures.{AreFigures};
 ghost use Rattle.aom_commands.specs.Acceptable.{IsSerialized};
-ghost use Rattle.aom_commands.specs.Headline.{accepted_text};
+ghost use Rattle.aom_commands.specs.Headline.{accepted_text, over};
 ghost use Rattle.aom_commands.specs.Prices.{IsPriced, IsWritten, PricesAnswersBy, Shown, StopsEarly};
 ghost use Rattle.aom_commands.specs.Unreported.{Unreported};
 
@@ -31,7 +31,7 @@ pub(crate) fn try_prices<W: Sink>(
     names: &Names,
     out: &mut W,
 ) -> Result<ExitStatus, Fault>
-    ensures { Unreported (PricesAnswersBy names.now image.now (record { before = W.out out.old; now = W.out out.new; failed = W.failed out.new })) result }
+    ensures { Unreported (PricesAnswersBy names.now image.now (over W.out W.failed out.old out.new)) result }
 {
     match price_bytes(alloc, names, image) {
         Ok(priced) => show(&priced, out),
@@ -41,7 +41,7 @@ pub(crate) fn try_prices<W: Sink>(
 
 /// Writes what is written. Why the image is refused, if it is, is left to be told, and before it a failure of the output.
 fn show<W: Sink>(priced: &Priced, out: &mut W) -> Result<ExitStatus, Fault>
-    ensures { Unreported (λ errors status. Shown priced.now.text.items priced.now.refusal status (record { before = W.out out.old; now = W.out out.new; failed = W.failed out.new }) errors) result }
+    ensures { Unreported (λ errors status. Shown priced.now.text.items priced.now.refusal status (over W.out W.failed out.old out.new) errors) result }
 {
     write_text(out, &priced.text);
     if out.has_failed() {

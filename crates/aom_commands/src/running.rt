@@ -1,22 +1,20 @@
 //! The run of an accepted image.
-ghost use Rattle.std.specs.Prelude.{◌≡◌, ◌≤◌, ◌+◌, [], IfOk, IfErr, Some, length, map, option_map};
+ghost use Rattle.std.specs.Prelude.{◌≡◌, ◌≤◌, IfOk, IfErr, Some, length, map, option_map};
 ghost use Rattle.aom_natives.specs.Owed.{OweNothing};
 ghost use Rattle.aom_natives.specs.Slots.{AllAgree};
 ghost use Rattle.aom_run.specs.Calls.{natives_of};
-ghost use Rattle.aom_machine_state.specs.LineBuffer.{step_lines};
 ghost use Rattle.aom_transcript.specs.Naming.{named_by};
 ghost use Rattle.aom_script.specs.Script.{IsTimely};
-ghost use Rattle.aom_commands.specs.Headline.{AllRunWell, HasNatives, IsFreshOf, RefusesBoot, Shows, outside_of};
+ghost use Rattle.aom_commands.specs.Headline.{AllRunWell, HasNatives, IsFreshOf, RefusesBoot, Shows, outside_of, over};
 ghost use Rattle.aom_commands.specs.declared.faults.Fault.TheVariants.{Memory};
 
 use crate::Fault;
 use aom_budget::Accepted;
-use aom_machine_state::LineBuffer;
 use aom_natives::Native;
-use aom_run::{HostedMachine, Outcome, run_named};
+use aom_run::{HostedMachine, Outcome, line_buffer, run_named};
 use aom_script::Script;
 use aom_transcript::Sink;
-use std::alloc::{AllocError, Global};
+use std::alloc::Global;
 
 /// A machine that has booted beside those natives, or why it does not boot.
 pub fn booted<'a>(
@@ -38,20 +36,6 @@ pub fn booted<'a>(
     }
 }
 
-/// The buffer for the lines of a run of an accepted image, with the requests that a script refuses.
-pub fn line_buffer(
-    alloc: Global,
-    accepted: &Accepted,
-    script: &Script,
-) -> Result<LineBuffer, AllocError>
-    ensures lines { IfOk result (λ b. b.lines ≡ []) }
-    ensures refused { IfOk result (λ b. b.refused ≡ script.now.refused) }
-    ensures room { IfOk result (λ b. b.room ≡ 64 + step_lines accepted.now.header.messages) }
-{
-    let refused = Vec::from_slice(alloc, script.refused())?;
-    LineBuffer::new(alloc, accepted.linked(), refused)
-}
-
 /// Runs a machine that has booted to its end, and writes classes by these names, if there are some. All memory is taken before anything is written.
 fn run_booted<W: Sink>(
     alloc: Global,
@@ -66,7 +50,7 @@ fn run_booted<W: Sink>(
     requires timely { IsTimely script.now.timed }
     requires agree { AllAgree (λ l. l.ids) (λ l. (⟦<dyn Native as Native>⟧ l.native.vtable).owed l.native.value) machine.old.natives.slots.items }
     requires fresh { IsFreshOf accepted.now machine.old }
-    ensures ok { IfOk result (λ outcome. Shows (named_by names.entry) accepted.now (outside_of script.now limit (natives_of machine.old)) outcome (record { before = W.out out.old; now = W.out out.new; failed = W.failed out.new })) }
+    ensures ok { IfOk result (λ outcome. Shows (named_by names.entry) accepted.now (outside_of script.now limit (natives_of machine.old)) outcome (over W.out W.failed out.old out.new)) }
     ensures err { IfErr result (λ fault. (fault ≡ Memory) × (W.out out.new ≡ W.out out.old)) }
 {
     let mut lines = line_buffer(alloc, accepted, script)?;
@@ -86,7 +70,7 @@ pub fn run_accepted<W: Sink>(
     requires limit { (1 ≤ limit) × (limit ≤ 1000000000) }
     requires timely { IsTimely script.now.timed }
     requires owed { OweNothing (λ b. (⟦<dyn Native as Native>⟧ b.vtable).owed b.value) boxes.items }
-    ensures ok { IfOk result (λ outcome. Shows (named_by names.entry) accepted.now (outside_of script.now limit (length boxes.items)) outcome (record { before = W.out out.old; now = W.out out.new; failed = W.failed out.new })) }
+    ensures ok { IfOk result (λ outcome. Shows (named_by names.entry) accepted.now (outside_of script.now limit (length boxes.items)) outcome (over W.out W.failed out.old out.new)) }
     ensures enough { IfOk result (λ _. HasNatives accepted.now (length boxes.items)) }
     ensures err { IfErr result (λ fault. RefusesBoot accepted.now (length boxes.items) fault × (W.out out.new ≡ W.out out.old)) }
 {

@@ -23,6 +23,10 @@ pub record Given : Type 0 where
   pub had_failed : Bool
   pub failed : Bool
 
+-- what a reader says of itself before a call and after it
+abbrev pub reading : {S : Type 0} → (given : S → Option (List ℕ)) → (ended failed : S → Bool) → (old new : S) → Given
+reading given ended failed old new = record { before = given old; now = given new; ended = ended new; had_failed = failed old; failed = failed new }
+
 -- nothing was read
 abbrev pub IsUnread : Given → Type 0
 IsUnread given = given.now ≡ given.before

@@ -7,20 +7,21 @@ ghost use Rattle.aom_run.specs.Calls.{RefinesWithNatives, natives_of};
 ghost use Rattle.aom_script.specs.Script.{IsTimely, denoted};
 ghost use Rattle.aom_debug.specs.Runners.{IsReady};
 ghost use Rattle.aom_commands.specs.Acceptable.{IsSerialized};
-ghost use Rattle.aom_commands.specs.Headline.{RefusesBoot};
+ghost use Rattle.aom_commands.specs.Headline.{RefusesBoot, over};
 ghost use Rattle.aom_commands.specs.declared.faults.Fault.TheVariants.{Memory};
 ghost use Rattle.aom_commands.specs.declared.status.ExitStatus.TheVariants.{Done};
 ghost use Rattle.aom_commands.specs.Unreported.{Unreported};
 ghost use Rattle.aom_debug.specs.Answers.{DebugAnswers, DebugAnswersBy};
 ghost use Rattle.aom_debug.specs.Beginning.{IsBegun};
+ghost use Rattle.aom_debug.specs.SessionLoop.{reading};
 
 use crate::session_loop::run_session;
 use crate::{Debugger, Reader, Sink};
 use aom_budget::Accepted;
-use aom_commands::{ExitStatus, Fault, accept_bytes, line_buffer, report};
+use aom_commands::{ExitStatus, Fault, accept_bytes, report};
 use aom_debug_symbols::SourceNames;
 use aom_natives::Native;
-use aom_run::HostedMachine;
+use aom_run::{HostedMachine, line_buffer};
 use aom_script::{Script, read_script};
 use std::alloc::Global;
 
@@ -38,7 +39,7 @@ pub fn debug_bytes<R: Reader, W: Sink, E: Sink>(
     errors: &mut E,
 ) -> ExitStatus
     requires owed { OweNothing (λ b. (⟦<dyn Native as Native>⟧ b.vtable).owed b.value) boxes.items }
-    ensures { DebugAnswers image.now script.now limit (length boxes.items) reads (record { before = R.given reader.old; now = R.given reader.new; ended = R.ended reader.new; had_failed = R.failed reader.old; failed = R.failed reader.new }) (record { before = W.out out.old; now = W.out out.new; failed = W.failed out.new }) (record { before = E.out errors.old; now = E.out errors.new; failed = E.failed errors.new }) result }
+    ensures { DebugAnswers image.now script.now limit (length boxes.items) reads (reading R.given R.ended R.failed reader.old reader.new) (over W.out W.failed out.old out.new) (over E.out E.failed errors.old errors.new) result }
 {
     match try_debug(
         alloc,
@@ -69,7 +70,7 @@ pub fn try_debug<R: Reader, W: Sink>(
     out: &mut W,
 ) -> Result<ExitStatus, Fault>
     requires owed { OweNothing (λ b. (⟦<dyn Native as Native>⟧ b.vtable).owed b.value) boxes.items }
-    ensures { Unreported (DebugAnswersBy names.entry image.now script.now limit (length boxes.items) reads (record { before = R.given reader.old; now = R.given reader.new; ended = R.ended reader.new; had_failed = R.failed reader.old; failed = R.failed reader.new }) (record { before = W.out out.old; now = W.out out.new; failed = W.failed out.new })) result }
+    ensures { Unreported (DebugAnswersBy names.entry image.now script.now limit (length boxes.items) reads (reading R.given R.ended R.failed reader.old reader.new) (over W.out W.failed out.old out.new)) result }
 {
     match accept_bytes(alloc, image) {
         Ok(accepted) => debug_text(
@@ -92,7 +93,7 @@ fn debug_text<R: Reader, W: Sink>(
     out: &mut W,
 ) -> Result<ExitStatus, Fault>
     requires owed { OweNothing (λ b. (⟦<dyn Native as Native>⟧ b.vtable).owed b.value) boxes.items }
-    ensures { (bytes : List ℕ) → IsSerialized bytes accepted.now → Unreported (DebugAnswersBy names.entry bytes text.now limit (length boxes.items) reads (record { before = R.given reader.old; now = R.given reader.new; ended = R.ended reader.new; had_failed = R.failed reader.old; failed = R.failed reader.new }) (record { before = W.out out.old; now = W.out out.new; failed = W.failed out.new })) result }
+    ensures { (bytes : List ℕ) → IsSerialized bytes accepted.now → Unreported (DebugAnswersBy names.entry bytes text.now limit (length boxes.items) reads (reading R.given R.ended R.failed reader.old reader.new) (over W.out W.failed out.old out.new)) result }
 {
     accepted.facts();
     match read_script(alloc, text) {
@@ -117,7 +118,7 @@ fn debug_script<R: Reader, W: Sink>(
 ) -> Result<ExitStatus, Fault>
     requires owed { OweNothing (λ b. (⟦<dyn Native as Native>⟧ b.vtable).owed b.value) boxes.items }
     requires timely { IsTimely script.timed }
-    ensures { (bytes text : List ℕ) → IsSerialized bytes accepted.now → denoted text ≡ Ok script → Unreported (DebugAnswersBy names.entry bytes text limit (length boxes.items) reads (record { before = R.given reader.old; now = R.given reader.new; ended = R.ended reader.new; had_failed = R.failed reader.old; failed = R.failed reader.new }) (record { before = W.out out.old; now = W.out out.new; failed = W.failed out.new })) result }
+    ensures { (bytes text : List ℕ) → IsSerialized bytes accepted.now → denoted text ≡ Ok script → Unreported (DebugAnswersBy names.entry bytes text limit (length boxes.items) reads (reading R.given R.ended R.failed reader.old reader.new) (over W.out W.failed out.old out.new)) result }
 {
     accepted.facts();
     match begin(alloc, accepted, script, limit, names, boxes) {

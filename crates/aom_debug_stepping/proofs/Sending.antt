@@ -1,5 +1,5 @@
 -- What goes out after what is out: moves one after another, the last of which may be cut.
-use Rattle.std.proofs.Common.{◌≡◌, ◌∙◌, ◌+◌, ◌-◌, ◌^◌, ◌<◌, ◌≤◌, ℕ, suc, ℤ, Bool, true, false, List, [], ◌++◌, Option, Some, None, length, take, refl, sym}
+use Rattle.std.proofs.Common.{◌≡◌, ◌∙◌, ◌+◌, ◌-◌, ◌^◌, ◌<◌, ◌≤◌, ℕ, suc, ℤ, Bool, true, false, List, [], ◌∷◌, ◌++◌, Option, Some, None, length, take, refl, sym}
 use Rattle.std.proofs.Common.{ap, subst, arith, IfSome}
 use Rattle.aom_debug_protocol.specs.declared.spot.CodeLocation.{CodeLocation}
 use Rattle.aom_image.specs.Image.{Image}
@@ -70,6 +70,11 @@ pub nearer : (far : Progress) (new old : ℕ) → (far ≡ Turned → new < old)
 nearer Turned new old less = let below = less refl in omega (arith, below)
 nearer Running new old less = omega arith
 nearer (Ended ending) new old less = omega arith
+
+-- a list of that length has nothing
+pub none_there : {A : Type 0} (xs : List A) → length xs ≡ 0 → xs ≡ []
+none_there [] none = refl
+none_there (x ∷ xs) none = cc
 
 -- what is out after two texts
 pub sent_both : (before mid out : Option (List ℕ)) (a b : List Line) → mid ≡ after before (text_of a) → out ≡ after mid (text_of b) →

@@ -104,15 +104,23 @@ fn closes_next(parts: &Parts, linked: &Linked) -> Answer
     }
 }
 
+/// Where the method that runs goes on.
+fn location(parts: &Parts) -> CodeLocation
+    requires { TopFrameIs parts.now.stack.tasks }
+    ensures { result ≡ record { method = method_here parts.now.stack.tasks; place = place_here parts.now.stack.tasks } }
+{
+    CodeLocation {
+        method: parts.stack.method().number(),
+        place: parts.stack.place(),
+    }
+}
+
 /// The instruction that is next.
 fn runs_next(parts: &Parts) -> Answer
     requires { TopFrameIs parts.now.stack.tasks }
     ensures { result ≡ At (record { method = method_here parts.now.stack.tasks; place = place_here parts.now.stack.tasks }) }
 {
-    Answer::At(CodeLocation {
-        method: parts.stack.method().number(),
-        place: parts.stack.place(),
-    })
+    Answer::At(location(parts))
 }
 
 /// What is next where the run is not over.
@@ -140,13 +148,36 @@ pub fn next_of(parts: &Parts, linked: &Linked) -> Answer
     }
 }
 
+/// The instruction that an answer tells of as next.
+fn spot_of(answer: Answer) -> Option<CodeLocation>
+    ensures { result ≡ spot_of answer }
+{
+    match answer {
+        Answer::At(spot) => Some(spot),
+        _ => None,
+    }
+}
+
+/// The instruction that is next, if one is, where the run is not over. Mostly a method runs.
+#[inline(always)]
+fn spot_in(parts: &Parts, linked: &Linked) -> Option<CodeLocation>
+    requires stands { Stands (record { image = linked.now; parts = parts.now }) }
+    ensures { (s : State) → Refines (record { image = linked.now; parts = parts.now }) s → result ≡ spot_of (next_in linked.now s s.tasks) }
+{
+    match parts.stack.top() {
+        Some(TaskKind::Run) => Some(location(parts)),
+        _ => spot_of(next_in(parts, linked)),
+    }
+}
+
 /// The instruction that is next, if one is.
+#[inline(always)]
 pub fn spot_at(parts: &Parts, linked: &Linked) -> Option<CodeLocation>
     requires stands { Stands (record { image = linked.now; parts = parts.now }) }
     ensures { (s : State) → Refines (record { image = linked.now; parts = parts.now }) s → result ≡ spot_of (next_of linked.now s) }
 {
-    match next_of(parts, linked) {
-        Answer::At(spot) => Some(spot),
-        _ => None,
+    match parts.rest.ended() {
+        Some(_) => None,
+        None => spot_in(parts, linked),
     }
 }

@@ -52,8 +52,3 @@ abbrev pub ReportsText : (text : List ℕ) → TextFault → ExitStatus → Sent
 ReportsText text (Asm fault) status errors = (status ≡ CallRefused) × ReportedAndExplained (ReportsFault (faults.Asm fault)) (Explains [] text (faults.Asm fault)) errors
 ReportsText text Other status errors = (status ≡ CallRefused) × ReportedAndExplained (Says (ended (codes "text"))) (λ said. said ≡ entry_text (word_texts Text)) errors
 ReportsText text Memory status errors = (status ≡ Faulty) × ReportedAndExplained (ReportsFault faults.Memory) (Explains [] [] faults.Memory) errors
-
--- a command with a text beside its image: the text denotes the image, and the command answers so; or it does not, nothing else is done, and that is told so
-pub data Beside (answers : ExitStatus → Type 0) (reports : TextFault → ExitStatus → Sent → Type 0) (text image : List ℕ) (out errors : Sent) (status : ExitStatus) : Type 0 where
-  denotes : Makes text image → answers status → Beside answers reports text image out errors status
-  refused : IsSilent out → (fault : TextFault) → RefusesText text image fault → reports fault status errors → Beside answers reports text image out errors status

@@ -6,3 +6,5 @@ pub mod AsLine
 pub mod Naming
 pub mod Debugged
 pub mod Unread
+pub mod Tellings
+pub mod Programs

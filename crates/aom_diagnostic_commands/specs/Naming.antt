@@ -1,5 +1,5 @@
 -- What a command promises that tells by the names of a text, or by its lines too.
-use Rattle.std.specs.Prelude.{ℕ, ◌≡◌, Bool, true, false, List, None, Some, codes}
+use Rattle.std.specs.Prelude.{ℕ, ◌≡◌, Bool, true, false, List, Option, None, Some, codes}
 use Rattle.aom_diagnostics.specs.Declarations.{class_names, method_names}
 use Rattle.aom_diagnostics.specs.Lines.{class_lines, image_line, method_lines}
 use Rattle.aom_cost_report.specs.Names.{Names}
@@ -18,9 +18,11 @@ use Rattle.aom_diagnostic_commands.specs.declared.with_text.TextFault.TheVariant
 abbrev pub by_names : (text : List ℕ) → Line → List ℕ
 by_names text = named_text (class_word (class_names text))
 
--- so where names are asked for, and else by its number
-abbrev pub line_by : (names : Bool) (text : List ℕ) → Line → List ℕ
-line_by names text = elim names [ true ↦ by_names text | false ↦ line_text ]
+-- so where names are asked for and there is a text, and else by its number
+abbrev pub line_in : (names : Bool) → (text : Option (List ℕ)) → Line → List ℕ
+line_in true (Some text) = by_names text
+line_in true None = line_text
+line_in false text = line_text
 
 -- the names of a text's classes and methods
 abbrev pub text_names : (text : List ℕ) → Names

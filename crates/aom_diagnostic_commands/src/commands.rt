@@ -1,117 +1,57 @@
-//! The commands that explain, alone or by the text that the image is of.
-ghost use Rattle.std.specs.Prelude.{◌≤◌, [], length};
+//! One call for each command, over a program and a way to tell what it has to tell.
+ghost use Rattle.std.specs.Prelude.{◌≡◌, ◌≤◌, [], length};
 ghost use Rattle.aom_natives.specs.Owed.{OweNothing};
-ghost use Rattle.aom_commands.specs.Headline.{RunAnswers, RunAnswersBy};
-ghost use Rattle.aom_diagnostic_commands.specs.Naming.{line_by, placed_names, text_names};
-ghost use Rattle.aom_commands.specs.Prices.{Checks, ChecksBy};
-ghost use Rattle.aom_commands.specs.Translations.{Translates};
-ghost use Rattle.aom_commands.specs.declared.commands.Translation.TheVariants.{Asm};
-ghost use Rattle.aom_diagnostic_commands.specs.Explained.{Explains, ExplainsByText};
-ghost use Rattle.aom_diagnostic_commands.specs.AsLine.{IsLineOf, OneLineFault, LinesText};
-ghost use Rattle.aom_diagnostic_commands.specs.Explaining.{Beside, Explaining, ReportsText};
+ghost use Rattle.aom_commands.specs.Explored.{ExploreAnswers};
+ghost use Rattle.aom_commands.specs.Headline.{IsSilent, RunAnswersBy, Sends, over};
+ghost use Rattle.aom_commands.specs.Prices.{ChecksBy};
+ghost use Rattle.aom_commands.specs.Translations.{DrawsBy};
+ghost use Rattle.aom_commands.specs.Unreported.{Unreported};
+ghost use Rattle.aom_debug.specs.Answers.{DebugAnswersBy};
+ghost use Rattle.aom_debug.specs.SessionLoop.{IsUnread, reading};
+ghost use Rattle.aom_diagnostic_commands.specs.Debugged.{debug_names};
+ghost use Rattle.aom_diagnostic_commands.specs.Naming.{line_in};
+ghost use Rattle.aom_diagnostic_commands.specs.Programs.{Answers};
+ghost use Rattle.aom_diagnostic_commands.specs.Tellings.{names_in};
+ghost use Rattle.aom_diagnostic_commands.specs.declared.telling.Telling.TheVariants.{Plain};
 
-use crate::naming::{try_check_by_lines, try_check_by_names, try_run_reported};
-use crate::one_line::{answer_as_line, line_text};
-use crate::reporting::answer_explained;
-use crate::reporting_by_text::{answer_by_text, report_text_refusal};
-use crate::with_text::ImageText;
-use aom_commands::{ExitStatus, Translation, try_check, try_run, try_translate};
-use aom_natives::Native;
-use aom_transcript::Sink;
+use crate::debugging::try_debug_told;
+use crate::naming::{try_check_told, try_draw_told, try_run_told};
+use crate::program::Program;
+use crate::telling::Telling;
+use aom_commands::{ExitStatus, Fault, explore_bytes};
+use aom_debug::Reader;
+use aom_fault_injection::Tries;
+use aom_natives::{Native, NativeKind};
+use aom_transcript::{Sink, write_text};
 use std::alloc::Global;
 
-/// Tells whether an image is accepted, with its figures where they are asked, and explains why it is not.
-pub fn check_explained<W: Sink, E: Sink>(
+/// Tells whether an image is accepted, with its figures where they are asked, by the names of its text. Those of one that its budgets or
+/// its limits alone refuse are told too.
+pub fn check<W: Sink, E: Sink>(
     alloc: Global,
-    image: &[u8],
+    program: Program<'_>,
+    telling: Telling<'_>,
     prices: bool,
     out: &mut W,
     errors: &mut E,
 ) -> ExitStatus
-    ensures { Explaining (Checks prices image.now (record { before = W.out out.old; now = W.out out.new; failed = W.failed out.new })) (Explains image.now []) (record { before = E.out errors.old; now = E.out errors.new; failed = E.failed errors.new }) result }
+    ensures { Answers telling.entry program.entry [] (W.out out.new ≡ W.out out.old) (λ image text. ChecksBy (names_in telling.entry text) prices image (over W.out W.failed out.old out.new)) (over E.out E.failed errors.old errors.new) result }
 {
-    let found = try_check(alloc, image, prices, out);
-    answer_explained(alloc, found, image, b"", errors)
-}
-
-/// Runs an image under a script beside those natives, and explains why it is not run. Lines are counted in the script.
-pub fn run_explained<W: Sink, E: Sink>(
-    alloc: Global,
-    image: &[u8],
-    script: &[u8],
-    limit: u32,
-    boxes: Vec<Box<dyn Native>>,
-    out: &mut W,
-    errors: &mut E,
-) -> ExitStatus
-    requires limit { (1 ≤ limit) × (limit ≤ 1000000000) }
-    requires owed { OweNothing (λ b. (⟦<dyn Native as Native>⟧ b.vtable).owed b.value) boxes.items }
-    ensures { Explaining (RunAnswers image.now script.now limit (length boxes.items) (record { before = W.out out.old; now = W.out out.new; failed = W.failed out.new })) (Explains image.now script.now) (record { before = E.out errors.old; now = E.out errors.new; failed = E.failed errors.new }) result }
-{
-    let found = try_run(alloc, image, script, limit, boxes, out);
-    answer_explained(alloc, found, image, script, errors)
-}
-
-/// Writes the bytes of the image that an assembly text denotes, and explains why it denotes none.
-pub fn asm_explained<W: Sink, E: Sink>(
-    alloc: Global,
-    text: &[u8],
-    out: &mut W,
-    errors: &mut E,
-) -> ExitStatus
-    ensures { Explaining (Translates Asm text.now (record { before = W.out out.old; now = W.out out.new; failed = W.failed out.new })) (Explains [] text.now) (record { before = E.out errors.old; now = E.out errors.new; failed = E.failed errors.new }) result }
-{
-    let found = try_translate(alloc, Translation::Asm, text, out);
-    answer_explained(alloc, found, b"", text, errors)
-}
-
-/// Tells whether an image is accepted, with its figures where they are asked, and explains by its text why it is not.
-pub fn check_by_text<W: Sink, E: Sink>(
-    alloc: Global,
-    image: &[u8],
-    text: &[u8],
-    prices: bool,
-    out: &mut W,
-    errors: &mut E,
-) -> ExitStatus
-    ensures { Beside (λ status. Explaining (ChecksBy (text_names text.now) prices image.now (record { before = W.out out.old; now = W.out out.new; failed = W.failed out.new })) (ExplainsByText image.now text.now []) (record { before = E.out errors.old; now = E.out errors.new; failed = E.failed errors.new }) status) (ReportsText text.now) text.now image.now (record { before = W.out out.old; now = W.out out.new; failed = W.failed out.new }) (record { before = E.out errors.old; now = E.out errors.new; failed = E.failed errors.new }) result }
-{
-    match ImageText::with_text(alloc, text, image) {
-        Err(fault) => report_text_refusal(alloc, &fault, text, errors),
-        Ok(text) => {
-            let found = try_check_by_names(alloc, image, &text, prices, out);
-            answer_by_text(alloc, found, image, &text, b"", errors)
+    match program.load(alloc) {
+        Ok(loaded) => {
+            let found = try_check_told(alloc, &loaded, telling, prices, out);
+            telling.answer(alloc, found, &loaded, b"", errors)
         }
+        Err(fault) => telling.refuse(alloc, &fault, program.text(), errors),
     }
 }
 
-/// Tells whether an image is accepted, with its figures where they are asked, each in one line of its text's file, and so why it is not.
-pub fn check_as_line<W: Sink, E: Sink>(
+/// Runs an image under a script beside those natives, and writes the transcript, with the names of its text in place of the numbers of classes
+/// where that is asked.
+pub fn run<W: Sink, E: Sink>(
     alloc: Global,
-    image: &[u8],
-    text: &[u8],
-    file: &[u8],
-    prices: bool,
-    out: &mut W,
-    errors: &mut E,
-) -> ExitStatus
-    ensures { Beside (λ status. OneLineFault (ChecksBy (placed_names file.now text.now) prices image.now (record { before = W.out out.old; now = W.out out.new; failed = W.failed out.new })) file.now (IsLineOf image.now text.now) (record { before = E.out errors.old; now = E.out errors.new; failed = E.failed errors.new }) status) (LinesText file.now text.now) text.now image.now (record { before = W.out out.old; now = W.out out.new; failed = W.failed out.new }) (record { before = E.out errors.old; now = E.out errors.new; failed = E.failed errors.new }) result }
-{
-    match ImageText::with_text(alloc, text, image) {
-        Err(fault) => line_text(alloc, &fault, file, errors),
-        Ok(text) => {
-            let found = try_check_by_lines(alloc, image, &text, file, prices, out);
-            answer_as_line(alloc, found, image, file, &text, errors)
-        }
-    }
-}
-
-/// Runs an image under a script beside those natives, and explains by its text why it is not run. Of a script the line is told. Where
-/// names are asked for, the transcript has those of the text in place of the numbers of classes.
-pub fn run_by_text<W: Sink, E: Sink>(
-    alloc: Global,
-    image: &[u8],
-    text: &[u8],
+    program: Program<'_>,
+    telling: Telling<'_>,
     names: bool,
     script: &[u8],
     limit: u32,
@@ -121,13 +61,115 @@ pub fn run_by_text<W: Sink, E: Sink>(
 ) -> ExitStatus
     requires limit { (1 ≤ limit) × (limit ≤ 1000000000) }
     requires owed { OweNothing (λ b. (⟦<dyn Native as Native>⟧ b.vtable).owed b.value) boxes.items }
-    ensures { Beside (λ status. Explaining (RunAnswersBy (line_by names text.now) image.now script.now limit (length boxes.items) (record { before = W.out out.old; now = W.out out.new; failed = W.failed out.new })) (ExplainsByText image.now text.now script.now) (record { before = E.out errors.old; now = E.out errors.new; failed = E.failed errors.new }) status) (ReportsText text.now) text.now image.now (record { before = W.out out.old; now = W.out out.new; failed = W.failed out.new }) (record { before = E.out errors.old; now = E.out errors.new; failed = E.failed errors.new }) result }
+    ensures { Answers telling.entry program.entry script.now (W.out out.new ≡ W.out out.old) (λ image text. RunAnswersBy (line_in names text) image script.now limit (length boxes.items) (over W.out W.failed out.old out.new)) (over E.out E.failed errors.old errors.new) result }
 {
-    match ImageText::with_text(alloc, text, image) {
-        Err(fault) => report_text_refusal(alloc, &fault, text, errors),
-        Ok(text) => {
-            let found = try_run_reported(alloc, image, &text, names, script, limit, boxes, out);
-            answer_by_text(alloc, found, image, &text, script, errors)
+    match program.load(alloc) {
+        Ok(loaded) => {
+            let found = try_run_told(alloc, &loaded, names, script, limit, boxes, out);
+            telling.answer(alloc, found, &loaded, script, errors)
         }
+        Err(fault) => telling.refuse(alloc, &fault, program.text(), errors),
+    }
+}
+
+/// Runs an image again and again, each time with a fault injected, beside natives of those kinds. No line of that has a name of a text.
+pub fn explore<W: Sink, E: Sink>(
+    alloc: Global,
+    program: Program<'_>,
+    script: &[u8],
+    limit: u32,
+    kinds: &[NativeKind],
+    tries: Tries,
+    out: &mut W,
+    errors: &mut E,
+) -> ExitStatus
+    requires limit { (1 ≤ limit) × (limit ≤ 1000000000) }
+    ensures { Answers Plain program.entry [] (W.out out.new ≡ W.out out.old) (λ image text. ExploreAnswers image script.now limit (length kinds.now) tries (over W.out W.failed out.old out.new)) (over E.out E.failed errors.old errors.new) result }
+{
+    match program.load(alloc) {
+        Ok(loaded) => explore_bytes(
+            alloc,
+            loaded.image(),
+            script,
+            limit,
+            kinds,
+            tries,
+            out,
+            errors,
+        ),
+        Err(fault) => Telling::Plain.refuse(alloc, &fault, program.text(), errors),
+    }
+}
+
+/// Runs an image under a script beside those natives as commands say, which come from a reader, and writes what they tell, by the names and the
+/// lines of its text. After so many reads that give no end it is a fault. Of a program without an image nothing is read.
+pub fn debug<R: Reader, W: Sink, E: Sink>(
+    alloc: Global,
+    program: Program<'_>,
+    script: &[u8],
+    limit: u32,
+    boxes: Vec<Box<dyn Native>>,
+    reader: &mut R,
+    reads: u64,
+    out: &mut W,
+    errors: &mut E,
+) -> ExitStatus
+    requires owed { OweNothing (λ b. (⟦<dyn Native as Native>⟧ b.vtable).owed b.value) boxes.items }
+    ensures { let given = reading R.given R.ended R.failed reader.old reader.new in Answers Plain program.entry script.now ((W.out out.new ≡ W.out out.old) × IsUnread given) (λ image text. DebugAnswersBy (debug_names text) image script.now limit (length boxes.items) reads given (over W.out W.failed out.old out.new)) (over E.out E.failed errors.old errors.new) result }
+{
+    match program.load(alloc) {
+        Ok(loaded) => {
+            let found = try_debug_told(alloc, &loaded, script, limit, boxes, reader, reads, out);
+            Telling::Plain.answer(alloc, found, &loaded, script, errors)
+        }
+        Err(fault) => Telling::Plain.refuse(alloc, &fault, program.text(), errors),
+    }
+}
+
+/// Writes the bytes of a program's image.
+pub fn asm<W: Sink, E: Sink>(
+    alloc: Global,
+    program: Program<'_>,
+    telling: Telling<'_>,
+    out: &mut W,
+    errors: &mut E,
+) -> ExitStatus
+    ensures { Answers telling.entry program.entry [] (W.out out.new ≡ W.out out.old) (λ image text errors status. Sends image status (over W.out W.failed out.old out.new) errors) (over E.out E.failed errors.old errors.new) result }
+{
+    match program.load(alloc) {
+        Ok(loaded) => {
+            let found = try_send(loaded.image(), out);
+            telling.answer(alloc, found, &loaded, b"", errors)
+        }
+        Err(fault) => telling.refuse(alloc, &fault, program.text(), errors),
+    }
+}
+
+/// Writes bytes to the output. That this fails is left to be told.
+fn try_send<W: Sink>(bytes: &[u8], out: &mut W) -> Result<ExitStatus, Fault>
+    ensures { Unreported (λ errors status. Sends bytes.now status (over W.out W.failed out.old out.new) errors) result }
+{
+    write_text(out, bytes);
+    if out.has_failed() {
+        return Err(Fault::Write);
+    }
+    Ok(ExitStatus::Done)
+}
+
+/// Writes the graph of an image, with the names of its text. One that its budgets or its limits alone refuse is drawn too.
+pub fn dot<W: Sink, E: Sink>(
+    alloc: Global,
+    program: Program<'_>,
+    out: &mut W,
+    errors: &mut E,
+) -> ExitStatus
+    ensures { Answers Plain program.entry [] (W.out out.new ≡ W.out out.old) (λ image text. DrawsBy (names_in Plain text) image (over W.out W.failed out.old out.new)) (over E.out E.failed errors.old errors.new) result }
+{
+    match program.load(alloc) {
+        Ok(loaded) => {
+            let found = try_draw_told(alloc, &loaded, out);
+            Telling::Plain.answer(alloc, found, &loaded, b"", errors)
+        }
+        Err(fault) => Telling::Plain.refuse(alloc, &fault, program.text(), errors),
     }
 }

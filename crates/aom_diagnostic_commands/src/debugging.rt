@@ -1,15 +1,16 @@
 //! A debugger that tells by the names and the lines of its image's text.
 ghost use Rattle.std.specs.Prelude.{length};
 ghost use Rattle.aom_natives.specs.Owed.{OweNothing};
+ghost use Rattle.aom_commands.specs.Headline.{over};
 ghost use Rattle.aom_commands.specs.Unreported.{Unreported};
 ghost use Rattle.aom_debug.specs.Answers.{DebugAnswersBy};
 ghost use Rattle.aom_debug_symbols.specs.NameLists.{names_of};
-ghost use Rattle.aom_diagnostic_commands.specs.Debugged.{SaysUnread};
-ghost use Rattle.aom_diagnostic_commands.specs.Explaining.{Beside};
+ghost use Rattle.aom_diagnostic_commands.specs.Debugged.{debug_names};
+ghost use Rattle.aom_debug.specs.SessionLoop.{reading};
 
-use crate::naming::report_text_fault;
+use crate::program::LoadedProgram;
 use crate::with_text::ImageText;
-use aom_commands::{ExitStatus, Fault, answer};
+use aom_commands::{ExitStatus, Fault};
 use aom_debug::{Reader, SourceNames, try_debug};
 use aom_diagnostics::{class_names, method_names};
 use aom_natives::Native;
@@ -29,7 +30,7 @@ fn try_debug_by_names<R: Reader, W: Sink>(
     out: &mut W,
 ) -> Result<ExitStatus, Fault>
     requires owed { OweNothing (λ b. (⟦<dyn Native as Native>⟧ b.vtable).owed b.value) boxes.items }
-    ensures { Unreported (DebugAnswersBy (names_of text.now) image.now script.now limit (length boxes.items) reads (record { before = R.given reader.old; now = R.given reader.new; ended = R.ended reader.new; had_failed = R.failed reader.old; failed = R.failed reader.new }) (record { before = W.out out.old; now = W.out out.new; failed = W.failed out.new })) result }
+    ensures { Unreported (DebugAnswersBy (names_of text.now) image.now script.now limit (length boxes.items) reads (reading R.given R.ended R.failed reader.old reader.new) (over W.out W.failed out.old out.new)) result }
 {
     let classes = class_names(alloc, text.bytes())?;
     let methods = method_names(alloc, text.bytes())?;
@@ -39,30 +40,42 @@ fn try_debug_by_names<R: Reader, W: Sink>(
     )
 }
 
-/// Runs an image under a script beside those natives as commands say, as `debug_bytes` does, and writes what they tell with the names and
-/// the lines of the image's text, by which commands may name places too.
-pub fn debug_named<R: Reader, W: Sink, E: Sink>(
+/// Debugs an image, by its text where there is one, and leaves its fault to be told.
+pub fn try_debug_told<R: Reader, W: Sink>(
     alloc: Global,
-    image: &[u8],
-    text: &[u8],
+    program: &LoadedProgram,
     script: &[u8],
     limit: u32,
     boxes: Vec<Box<dyn Native>>,
     reader: &mut R,
     reads: u64,
     out: &mut W,
-    errors: &mut E,
-) -> ExitStatus
+) -> Result<ExitStatus, Fault>
     requires owed { OweNothing (λ b. (⟦<dyn Native as Native>⟧ b.vtable).owed b.value) boxes.items }
-    ensures { Beside (λ status. DebugAnswersBy (names_of text.now) image.now script.now limit (length boxes.items) reads (record { before = R.given reader.old; now = R.given reader.new; ended = R.ended reader.new; had_failed = R.failed reader.old; failed = R.failed reader.new }) (record { before = W.out out.old; now = W.out out.new; failed = W.failed out.new }) (record { before = E.out errors.old; now = E.out errors.new; failed = E.failed errors.new }) status) (SaysUnread (record { before = R.given reader.old; now = R.given reader.new; ended = R.ended reader.new; had_failed = R.failed reader.old; failed = R.failed reader.new })) text.now image.now (record { before = W.out out.old; now = W.out out.new; failed = W.failed out.new }) (record { before = E.out errors.old; now = E.out errors.new; failed = E.failed errors.new }) result }
+    ensures { Unreported (DebugAnswersBy (debug_names program.now.text) program.now.image script.now limit (length boxes.items) reads (reading R.given R.ended R.failed reader.old reader.new) (over W.out W.failed out.old out.new)) result }
 {
-    match ImageText::with_text(alloc, text, image) {
-        Err(fault) => report_text_fault(&fault, errors),
-        Ok(text) => {
-            let reported = try_debug_by_names(
-                alloc, image, &text, script, limit, boxes, reader, reads, out,
-            );
-            answer(reported, errors)
-        }
+    match program.text() {
+        Some(text) => try_debug_by_names(
+            alloc,
+            program.image(),
+            text,
+            script,
+            limit,
+            boxes,
+            reader,
+            reads,
+            out,
+        ),
+        None => try_debug(
+            alloc,
+            program.image(),
+            script,
+            limit,
+            SourceNames::none(),
+            boxes,
+            reader,
+            reads,
+            out,
+        ),
     }
 }

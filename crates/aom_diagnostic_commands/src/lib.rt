@@ -1,36 +1,28 @@
-//! The commands that explain: each answers as it does without, and behind a fault's line says what the fault means.
+//! One call for each command, over a program: an image, a text, or an image beside its text.
 //!
-//! `check_explained`, `run_explained` and `asm_explained` promise `Explaining` of `specs/Explaining.antt`: the
-//! same status, the same output and the same fault line as the command of `aom_commands`, and then the text of `specs/Explained.antt`,
-//! which `aom_diagnostics` writes. Without a fault nothing is explained. `check_by_text` and `run_by_text` take the
-//! text too that the image is of, and explain by its lines; they promise `Beside`, and refuse a text that denotes no image or
-//! another one. `run_named`, `prices_named`, `dot_named` and `debug_named` (`specs/Debugged.antt`) take it to tell by its names
-//! (`specs/Naming.antt`), and so do the others that have a text; `explore_by_text` tells none. `check_as_line` takes it too, and tells a fault
-//! in one line of its file, as compilers do (`specs/AsLine.antt`). `report_unread` tells which file cannot be read (`specs/Unread.antt`).
+//! `check`, `run`, `explore`, `debug`, `asm` and `dot` take a `Program` and, where a fault can be told in more than one way, a `Telling`. They
+//! promise `Answers` of `specs/Programs.antt`: the program has an image, and the call answers of it as the command of `aom_commands` does; or
+//! the text is refused, nothing else is done, and that is told. `Tells` of `specs/Tellings.antt` says how a fault is told: by its line, with
+//! what it means behind it (`specs/Explained.antt`, which `aom_diagnostics` writes), or in one line of the text's file, as compilers do
+//! (`specs/AsLine.antt`). With a text, figures, graphs, transcripts and the debugger have its names (`specs/Naming.antt`).
 //! Nothing here knows why an image is refused, nor where a sink leads.
 #![tactic(auto)]
 
 mod commands;
 mod debugging;
 mod explaining;
-mod exploring;
 mod linking;
 mod naming;
 mod one_line;
+mod program;
 mod reporting;
 mod reporting_by_text;
 mod stopping;
+mod telling;
 mod unread;
 mod with_text;
 mod wrong;
 
-pub use commands::{
-    asm_explained, check_as_line, check_by_text, check_explained, run_by_text, run_explained,
-};
-pub use debugging::debug_named;
-pub use explaining::{entry_of, explanation};
-pub use exploring::explore_by_text;
-pub use naming::{dot_named, prices_named, run_named};
-pub use one_line::report_as_line;
-pub use reporting::report_explained;
-pub use unread::report_unread;
+pub use commands::{asm, check, debug, dot, explore, run};
+pub use program::Program;
+pub use telling::Telling;

@@ -5,15 +5,15 @@ ghost use Rattle.aom_diagnostics.specs.Lines.{as_line_text};
 ghost use Rattle.aom_diagnostics.specs.Table.{word_texts};
 ghost use Rattle.aom_diagnostics.specs.declared.word.Unnumbered.TheVariants.{Text};
 ghost use Rattle.aom_commands.specs.Acceptable.{IsSerialized};
-ghost use Rattle.aom_commands.specs.Headline.{Says, ReportsFault};
+ghost use Rattle.aom_commands.specs.Headline.{Says, ReportsFault, over};
 ghost use Rattle.aom_commands.specs.Status.{status_of};
 ghost use Rattle.aom_transcript.specs.Text.{ended};
-ghost use Rattle.aom_diagnostic_commands.specs.AsLine.{AnsweredOrAsLine, IsLineOf, LinesFault, LinesLink, LinesText, ReportedPlainly, ReportsAsLine, fault_place, line_at, refusal_place};
+ghost use Rattle.aom_diagnostic_commands.specs.AsLine.{IsLineOf, LinesFault, LinesLink, LinesText, ReportedPlainly, ReportsAsLine, fault_place, line_at, refusal_place};
 
 use crate::explaining::entry_of;
 use crate::with_text::{ImageText, TextFault};
 use aom_codec::decode;
-use aom_commands::{ExitStatus, Fault, fault_text, report};
+use aom_commands::{ExitStatus, Fault, report};
 use aom_cost_report::FigureWriter;
 use aom_diagnostics::{
     Explanation, Unnumbered, budget_line, link_line, refusal_line, word_entry, write_as_line,
@@ -93,7 +93,7 @@ fn line_of(
 /// Tells a fault by its own line, and behind it that there was no memory for another. Answers the fault's status.
 fn report_plainly<E: Sink>(fault: &Fault, errors: &mut E) -> ExitStatus
     ensures status { result ≡ status_of fault.now }
-    ensures reported { ReportedPlainly (ReportsFault fault.now) (record { before = E.out errors.old; now = E.out errors.new; failed = E.failed errors.new }) }
+    ensures reported { ReportedPlainly (ReportsFault fault.now) (over E.out E.failed errors.old errors.new) }
 {
     let status = report(fault, errors);
     report(&Fault::Memory, errors);
@@ -109,9 +109,9 @@ pub fn report_as_line<E: Sink>(
     errors: &mut E,
 ) -> ExitStatus
     ensures status { result ≡ status_of fault.now }
-    ensures reported { ReportsAsLine (line_at file.now place fault.now) (ReportsFault fault.now) (record { before = E.out errors.old; now = E.out errors.new; failed = E.failed errors.new }) }
+    ensures reported { ReportsAsLine (line_at file.now place fault.now) (ReportsFault fault.now) (over E.out E.failed errors.old errors.new) }
 {
-    let reported = fault_text(fault);
+    let reported = fault.line();
     match line_of(alloc, file, place, reported.as_bytes(), &entry_of(fault)) {
         Ok(line) => {
             write_text(errors, &line);
@@ -123,7 +123,7 @@ pub fn report_as_line<E: Sink>(
 
 /// Tells a fault in one line of the text that the image is of, and answers its status. Where there is no memory to find the line, the
 /// fault's own and `memory` are told.
-fn report_placed<E: Sink>(
+pub fn report_placed<E: Sink>(
     alloc: Global,
     fault: &Fault,
     image: &[u8],
@@ -132,7 +132,7 @@ fn report_placed<E: Sink>(
     errors: &mut E,
 ) -> ExitStatus
     ensures status { result ≡ status_of fault.now }
-    ensures reported { LinesFault file.now (IsLineOf image.now text.now fault.now) fault.now (record { before = E.out errors.old; now = E.out errors.new; failed = E.failed errors.new }) }
+    ensures reported { LinesFault file.now (IsLineOf image.now text.now fault.now) fault.now (over E.out E.failed errors.old errors.new) }
 {
     match line_of_fault(alloc, image, text, fault) {
         Ok(line) => report_as_line(alloc, file, line, fault, errors),
@@ -140,26 +140,9 @@ fn report_placed<E: Sink>(
     }
 }
 
-/// Answers the status that a call has come to, or tells its fault in one line of the text that the image is of.
-pub fn answer_as_line<E: Sink>(
-    alloc: Global,
-    found: Result<ExitStatus, Fault>,
-    image: &[u8],
-    file: &[u8],
-    text: &ImageText,
-    errors: &mut E,
-) -> ExitStatus
-    ensures { AnsweredOrAsLine file.now (IsLineOf image.now text.now) found (record { before = E.out errors.old; now = E.out errors.new; failed = E.failed errors.new }) result }
-{
-    match found {
-        Ok(status) => status,
-        Err(fault) => report_placed(alloc, &fault, image, file, text, errors),
-    }
-}
-
 /// Tells that a text denotes another image by the word alone, and behind it that there was no memory for a line.
 fn report_other_plainly<E: Sink>(errors: &mut E)
-    ensures { ReportedPlainly (Says (ended (codes "text"))) (record { before = E.out errors.old; now = E.out errors.new; failed = E.failed errors.new }) }
+    ensures { ReportedPlainly (Says (ended (codes "text"))) (over E.out E.failed errors.old errors.new) }
 {
     write_text(errors, b"text\n");
     report(&Fault::Memory, errors);
@@ -167,7 +150,7 @@ fn report_other_plainly<E: Sink>(errors: &mut E)
 
 /// Tells that a text denotes another image.
 fn line_other<E: Sink>(alloc: Global, file: &[u8], errors: &mut E)
-    ensures { ReportsAsLine (as_line_text file.now None (codes "text") (word_texts Text).name) (Says (ended (codes "text"))) (record { before = E.out errors.old; now = E.out errors.new; failed = E.failed errors.new }) }
+    ensures { ReportsAsLine (as_line_text file.now None (codes "text") (word_texts Text).name) (Says (ended (codes "text"))) (over E.out E.failed errors.old errors.new) }
 {
     match line_of(alloc, file, None, b"text", &word_entry(Unnumbered::Text)) {
         Ok(line) => write_text(errors, &line),
@@ -182,7 +165,7 @@ pub fn line_text<E: Sink>(
     file: &[u8],
     errors: &mut E,
 ) -> ExitStatus
-    ensures { (text : List ℕ) → LinesText file.now text fault.now result (record { before = E.out errors.old; now = E.out errors.new; failed = E.failed errors.new }) }
+    ensures { (text : List ℕ) → LinesText file.now text fault.now result (over E.out E.failed errors.old errors.new) }
 {
     match *fault {
         TextFault::Asm(fault) => {

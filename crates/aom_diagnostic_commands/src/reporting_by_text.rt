@@ -1,12 +1,12 @@
 //! A fault's line, and its explanation by the text that the image is of.
 ghost use Rattle.std.specs.Prelude.{◌≡◌, codes};
-ghost use Rattle.aom_commands.specs.Headline.{Says, Sent, Reported};
+ghost use Rattle.aom_commands.specs.Headline.{Says, Sent, Reported, over};
 ghost use Rattle.aom_transcript.specs.Text.{ended};
 ghost use Rattle.aom_diagnostics.specs.Entries.{entry_text};
 ghost use Rattle.aom_diagnostics.specs.Table.{word_texts};
 ghost use Rattle.aom_diagnostics.specs.declared.word.Unnumbered.TheVariants.{Text};
 ghost use Rattle.aom_diagnostic_commands.specs.Explained.{ExplainsByText};
-ghost use Rattle.aom_diagnostic_commands.specs.Explaining.{AnsweredOrExplained, ReportsText, ReportedAndExplained};
+ghost use Rattle.aom_diagnostic_commands.specs.Explaining.{ReportsText, ReportedAndExplained};
 
 use crate::explaining::{explanation_by_text, other_explanation};
 use crate::reporting::{explain, report_explained};
@@ -16,7 +16,7 @@ use aom_transcript::{Sink, write_text};
 use std::alloc::Global;
 
 /// Tells a fault, explains it by the text that the image is of, and answers its status.
-fn report_by_text<E: Sink>(
+pub fn report_by_text<E: Sink>(
     alloc: Global,
     fault: &Fault,
     image: &[u8],
@@ -24,7 +24,7 @@ fn report_by_text<E: Sink>(
     script: &[u8],
     errors: &mut E,
 ) -> ExitStatus
-    ensures { ReportedAndExplained (Reported fault.now result) (ExplainsByText image.now text.now script.now fault.now) (record { before = E.out errors.old; now = E.out errors.new; failed = E.failed errors.new }) }
+    ensures { ReportedAndExplained (Reported fault.now result) (ExplainsByText image.now text.now script.now fault.now) (over E.out E.failed errors.old errors.new) }
 {
     let status = report(fault, errors);
     explain(
@@ -34,23 +34,6 @@ fn report_by_text<E: Sink>(
     status
 }
 
-/// Answers the status that a call has come to, or tells its fault and explains it so behind its line.
-pub fn answer_by_text<E: Sink>(
-    alloc: Global,
-    found: Result<ExitStatus, Fault>,
-    image: &[u8],
-    text: &ImageText,
-    script: &[u8],
-    errors: &mut E,
-) -> ExitStatus
-    ensures { AnsweredOrExplained (ExplainsByText image.now text.now script.now) found (record { before = E.out errors.old; now = E.out errors.new; failed = E.failed errors.new }) result }
-{
-    match found {
-        Ok(status) => status,
-        Err(fault) => report_by_text(alloc, &fault, image, text, script, errors),
-    }
-}
-
 /// Tells why a text is refused beside an image, and explains it.
 pub fn report_text_refusal<E: Sink>(
     alloc: Global,
@@ -58,7 +41,7 @@ pub fn report_text_refusal<E: Sink>(
     text: &[u8],
     errors: &mut E,
 ) -> ExitStatus
-    ensures { ReportsText text.now fault.now result (record { before = E.out errors.old; now = E.out errors.new; failed = E.failed errors.new }) }
+    ensures { ReportsText text.now fault.now result (over E.out E.failed errors.old errors.new) }
 {
     match *fault {
         TextFault::Asm(fault) => {
@@ -75,7 +58,7 @@ pub fn report_text_refusal<E: Sink>(
 
 /// Tells that a text denotes another image, and explains it.
 fn report_other<E: Sink>(alloc: Global, errors: &mut E)
-    ensures { ReportedAndExplained (Says (ended (codes "text"))) (λ said. said ≡ entry_text (word_texts Text)) (record { before = E.out errors.old; now = E.out errors.new; failed = E.failed errors.new }) }
+    ensures { ReportedAndExplained (Says (ended (codes "text"))) (λ said. said ≡ entry_text (word_texts Text)) (over E.out E.failed errors.old errors.new) }
 {
     write_text(errors, b"text\n");
     explain(other_explanation(alloc), errors);

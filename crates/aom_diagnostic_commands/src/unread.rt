@@ -1,6 +1,6 @@
 //! A file that cannot be read.
 ghost use Rattle.std.specs.Prelude.{◌≡◌, ◌++◌, IfOk, OnOk};
-ghost use Rattle.aom_commands.specs.Headline.{Reported};
+ghost use Rattle.aom_commands.specs.Headline.{Reported, over};
 ghost use Rattle.aom_commands.specs.declared.faults.Fault.TheVariants.{File};
 ghost use Rattle.aom_diagnostic_commands.specs.Explaining.{ReportedAndExplained};
 ghost use Rattle.aom_diagnostic_commands.specs.Unread.{file_line, reason_words, unread_text};
@@ -42,7 +42,7 @@ fn unread_text(alloc: Global, name: &[u8], why: &[u8]) -> Result<Vec<u8>, AllocE
 
 /// Tells that the file of that name cannot be read, explains it with its name and why, and answers its status.
 pub fn report_unread<E: Sink>(alloc: Global, name: &[u8], why: &[u8], errors: &mut E) -> ExitStatus
-    ensures { ReportedAndExplained (Reported File result) (λ said. said ≡ unread_text name.now why.now) (record { before = E.out errors.old; now = E.out errors.new; failed = E.failed errors.new }) }
+    ensures { ReportedAndExplained (Reported File result) (λ said. said ≡ unread_text name.now why.now) (over E.out E.failed errors.old errors.new) }
 {
     let status = report(&Fault::File, errors);
     explain(unread_text(alloc, name, why), errors);

@@ -1,11 +1,10 @@
 //! Texts beside images.
 ghost use Rattle.std.specs.Prelude.{ℕ, ◌≡◌, ◌≤◌, ◌^◌, List, IfErr, IfOk, length};
-ghost use Rattle.aom_commands.specs.Assembly.{Makes};
+ghost use Rattle.aom_commands.specs.Assembly.{Makes, RefusesText as RefusesFile};
 ghost use Rattle.aom_diagnostic_commands.specs.Explaining.{RefusesText};
 
-use aom_asm::assemble;
-use aom_codec::encode;
-use aom_text::{AsmFault, AsmFaultKind};
+use aom_commands::{Fault, assemble_bytes};
+use aom_text::AsmFault;
 use std::alloc::Global;
 use std::marker::Model;
 use thiserror::Error;
@@ -50,11 +49,22 @@ impl<'a> ImageText<'a> {
         ensures makes { IfOk result (λ t. Makes text.now image.now) }
         ensures err { IfErr result (λ fault. RefusesText text.now image.now fault) }
     {
-        let bytes = bytes_of(alloc, text)?;
-        if bytes.as_slice() == image {
-            return Ok(ImageText { text });
+        match assemble_bytes(alloc, text) {
+            Ok(bytes) if bytes.as_slice() == image => Ok(ImageText { text }),
+            Ok(_) => Err(TextFault::Other),
+            Err(Fault::Asm(fault)) => Err(TextFault::Asm(fault)),
+            Err(_) => Err(TextFault::Memory),
         }
-        Err(TextFault::Other)
+    }
+
+    /// The text with the bytes of the image that it denotes.
+    pub fn with_image(alloc: Global, text: &'a [u8]) -> Result<(ImageText<'a>, Vec<u8>), Fault>
+        ensures text { IfOk result (λ both. both.0 ≡ text.now) }
+        ensures makes { IfOk result (λ both. Makes text.now both.1.items) }
+        ensures err { IfErr result (λ fault. RefusesFile text.now fault) }
+    {
+        let image = assemble_bytes(alloc, text)?;
+        Ok((ImageText { text }, image))
     }
 
     pub fn bytes(&self) -> &'a [u8]
@@ -62,22 +72,5 @@ impl<'a> ImageText<'a> {
         ensures short { length result.now ≤ 2 ^ 20 }
     {
         self.text
-    }
-}
-
-/// The bytes of the image that a text denotes.
-fn bytes_of(alloc: Global, text: &[u8]) -> Result<Vec<u8>, TextFault>
-    ensures ok { IfOk result (λ bytes. Makes text.now bytes.items) }
-    ensures err { IfErr result (λ fault. (image : List ℕ) → RefusesText text.now image fault) }
-{
-    match assemble(alloc, text) {
-        Ok(image) => match encode(alloc, &image) {
-            Ok(bytes) => Ok(bytes),
-            Err(_) => Err(TextFault::Memory),
-        },
-        Err(fault) => match fault.kind {
-            AsmFaultKind::OutOfMemory => Err(TextFault::Memory),
-            _ => Err(TextFault::Asm(fault)),
-        },
     }
 }

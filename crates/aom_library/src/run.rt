@@ -1,4 +1,4 @@
 //! A whole run, into a sink.
 
-pub use aom_run::{Outcome, run, run_named, take_turns};
+pub use aom_run::{Outcome, line_buffer, run, run_named, take_turns};
 pub use aom_transcript::{Sink, write_lines, write_text};

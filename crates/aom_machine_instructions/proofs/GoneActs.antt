@@ -2,11 +2,13 @@
 use Rattle.std.proofs.lemmas.Bool.Decides.{nat_tests}
 use Rattle.std.proofs.Common.{Bool, inl, inr, not, List, None, Option, Some, [], ap, arith, cond, false, length}
 use Rattle.std.proofs.Common.{refl, subst, suc, sym, true, ℕ, ◌++◌, ◌+◌, ◌<◌, ◌==◌, ◌||◌, ◌∙◌, ◌∷◌, ◌≡◌, ◌≤◌}
-use Rattle.std.specs.Prelude.{IsSome, flat_map, is_some, map}
+use Rattle.std.specs.Prelude.{IsSome, flat_map, is_some, map, slice_index_or}
 use Rattle.std.proofs.lemmas.Bool.{and_parts, eq-eqb, eqb-true, false≢true, or_right}
-use Rattle.std.proofs.lemmas.List.{append_assoc, get_or_past, length-append}
+use Rattle.std.proofs.lemmas.List.{append-nil, append_assoc, get_or_past, length-append}
 use Rattle.aom_machine_instructions.proofs.ImageLemmas.{some_given}
-use Rattle.aom_active_objects.specs.Agrees.{Active}
+use Rattle.aom_active_objects.specs.Agrees.{Active, RequestAgrees}
+use Rattle.aom_scheduler.specs.declared.request.Request.{Request as Machine_request}
+use Rattle.aom_clients.specs.Lists.{without as without_number}
 use Rattle.aom_cells.specs.Heap.{Changes, Heap, Lives, cell_at, class_at, count, null}
 use Rattle.aom_clients.specs.Clients as kept
 use Rattle.aom_clients.specs.Table.{after_server_destroyed, server_of}
@@ -33,7 +35,7 @@ use Rattle.aom_semantics.specs.Lines.{queue_lines}
 use Rattle.aom_semantics.specs.Moves.{goes_line}
 use Rattle.aom_semantics.specs.Places.{Cell, Elsewhere, Field, Going, Object, Place, Queued, Request, Service}
 use Rattle.aom_semantics.specs.Places.{Session, NoDuplicates, changed, held, named, requested, service_of, without}
-use Rattle.aom_safety.specs.Requests.{ConformsTo, resting_in, states_claim, thing_kind}
+use Rattle.aom_safety.specs.Requests.{ConformsTo, Known, resting_in, states_claim, thing_kind}
 use Rattle.aom_semantics.specs.Servers.{is_among, is_queue, is_queue_of, without_queue}
 use Rattle.aom_semantics.specs.State.{Destroy, State, Task, resumed}
 use Rattle.aom_safety.specs.WellTyped.{Good, WellTyped}
@@ -63,7 +65,8 @@ use Rattle.aom_machine_state.specs.declared.parts.Parts.{Parts}
 use Rattle.aom_machine_instructions.proofs.GoingActs.{Ends_cell, by_going, fields_gone, going_object, going_on, going_small, line_of, nothing_owned}
 use Rattle.aom_machine_instructions.proofs.GoingActs.{number_of, over, same_resumed, thing_of_it, value_resumed, word_resumed}
 use Rattle.aom_machine_instructions.proofs.ReturnActs.{lives_within}
-use Rattle.aom_machine_instructions.specs.Acts.{GoesAway, In_going}
+use Rattle.aom_machine_instructions.specs.Acts.{GoesAway, GoesAwayIn, In_going}
+use Rattle.aom_machine_instructions.specs.Going.{dispatches, is_dispatched_class}
 use Rattle.aom_machine_instructions.specs.Serving.{AllKept, CanReclaim, Drops, answers, count_messages, gone_lines, has_message}
 
 -- ---- entries and the places of their messages
@@ -414,6 +417,86 @@ go_does m heap a w store n class reported which is gone less off shut drops p h 
       goes_away p m h o holds free heap a w store gone less off shut drops typed fits x ms top,
       reported_away p m h o holds free heap a w store gone less off shut drops typed fits x ms top class reported thing,
     )) which
+
+-- ---- a cell whose objects are not dispatched
+
+-- what is dispatched never makes no request
+unasked : (k : Option ClassKind) (known : Known) (r : Option Request) → dispatches k ≡ false → ConformsTo k known r → r ≡ None
+unasked k known r quiet conforms = grind arith
+
+unasked_here : (r : Option Machine_request) (q : Option Request) (w : Option Bool) → q ≡ None → RequestAgrees r q w → r ≡ None
+unasked_here r q w none same = grind arith
+
+unlisted_here : (p : Image) (class : ℕ) (x : Option Object) (r : Option Request) → r ≡ None → lists p class x r ≡ false
+unlisted_here p class x r none = grind arith
+
+-- nothing is taken out where it is not
+without_none : (n : ℕ) (xs : List ℕ) → is_among n xs ≡ false → without_number n xs ≡ xs
+without_none n [] none = refl
+without_none n (x ∷ xs) none = grind (arith, nat_tests, without_none n xs)
+
+all_without : (n : ℕ) (ls : List (List ℕ)) → ((class : ℕ) → is_among n (slice_index_or ls class []) ≡ false) → map (without_number n) ls ≡ ls
+all_without n [] none = refl
+all_without n (l ∷ ls) none =
+    ap (λ x. x ∷ map (without_number n) ls) (without_none n l (none 0)) ∙ ap (λ xs. l ∷ xs) (all_without n ls (λ class. none (suc class)))
+
+none_mapped : {A B : Type 0} (f : A → B) (xs : List A) → map f xs ≡ [] → xs ≡ []
+none_mapped f [] none = refl
+none_mapped f (x ∷ xs) none = cc
+
+module _ (p : Image) (m : Parts) (h : In_going p m) (o : Object) (lives : named h.state.cells o.name ≡ Some o) (quiet : dispatches (thing_kind p o.thing) ≡ false) where
+  not_asked : requested h.state.cells o.name ≡ None
+  not_asked = unasked (thing_kind p o.thing) _ (requested h.state.cells o.name) quiet (h.typed.good.conforms_to o lives)
+
+  not_delisted : Delists m.active m.active o.name
+  not_delisted = inl (unasked_here _ _ _ not_asked (h.agrees.requests.stands.reports o.name), refl)
+
+  not_listed : unlisted o.name m.listed ≡ m.listed
+  not_listed = ap (λ ls. record m.listed { lists = ls }) (all_without o.name m.listed.lists (λ class. h.agrees.services.listed.there o.name class
+      ∙ unlisted_here p class (named h.state.cells o.name) (requested h.state.cells o.name) not_asked))
+
+  no_queue : kept.queue_at m.clients o.name ≡ []
+  no_queue = none_mapped (asked_by m.clients.places) (kept.queue_at m.clients o.name)
+      (h.agrees.services.clients.queues o.name ∙ (h.kept.fit.enlisted o lives not_asked).0)
+
+  no_sessions : kept.sessions_at m.clients o.name ≡ []
+  no_sessions = h.agrees.services.clients.sessions o.name ∙ (h.kept.fit.enlisted o lives not_asked).1
+
+  clients_stay : kept.server_gone o.name m.clients ≡ m.clients
+  clients_stay = ap (λ es. kept.sessions_gone o.name (kept.sessions_at m.clients o.name) (kept.queue_gone o.name es m.clients)) no_queue
+      ∙ ap (λ cs. kept.sessions_gone o.name cs m.clients) no_sessions
+
+  nothing_drops : Drops (kept.queue_at m.clients o.name) m.messages m.messages
+  nothing_drops = subst (λ es. Drops es m.messages m.messages) (sym no_queue)
+      (record { gone = λ j e. absurd (false≢true e); others = λ j e. refl; count = omega arith; limit = refl })
+
+  no_lines : gone_lines m.clients (kept.queue_at m.clients o.name) ≡ []
+  no_lines = ap (gone_lines m.clients) no_queue
+
+-- it goes, and nothing with it but its session
+pub go_alone_does : (p : Image) (m : Parts) (heap : Heap) (w : Standing) (n class : ℕ) (reported : LineBuffer) → n ≡ going_here m.stack.tasks →
+    class_at m.cells n ≡ Some class → Changes m.cells heap n None → count heap + 1 ≡ count m.cells → Sets m.sessions w n false →
+    is_dispatched_class p (class_at m.cells n) ≡ false → GoesAwayIn p m (places.next (record (with_tasks (below_first m.stack.tasks) m)
+    { cells = heap; sessions = w })) reported (record reported { lines = reported.lines ++ Gone class ∷ [] })
+go_alone_does p m heap w n class reported which is gone less shut quiet h o holds free typed fits =
+    let s = h.state in
+    let lives = held_lives s.cells _ o h.typed.good.no_duplicates holds in
+    let found : (n ≡ o.name) × (o.thing ≡ An_object_of class) = by_going p m h (λ us. n ≡ going_here us → (n ≡ o.name) × (o.thing ≡ An_object_of class))
+    (λ x ms top which. let name : n ≡ o.name = which ∙ number_of p m h o x ms top holds in
+    (name, thing_of_it p m h o n class is name lives (going_object p m h o x ms top holds))) which in
+    let name = found.0 in
+    let alone : dispatches (thing_kind p o.thing) ≡ false = ap (λ t. dispatches (thing_kind p t)) found.1 ∙ ap (is_dispatched_class p) (sym is) ∙ quiet in
+    let off = subst (λ k. Delists m.active m.active k) (sym name) (not_delisted p m h o lives alone) in
+    let drops = subst (λ k. Drops (kept.queue_at m.clients k) m.messages m.messages) (sym name) (nothing_drops p m h o lives alone) in
+    let clients : kept.server_gone n m.clients ≡ m.clients = ap (λ k. kept.server_gone k m.clients) name ∙ clients_stay p m h o lives alone in
+    let listed : unlisted n m.listed ≡ m.listed = ap (λ k. unlisted k m.listed) name ∙ not_listed p m h o lives alone in
+    let lines : gone_lines m.clients (kept.queue_at m.clients n) ≡ [] = ap (λ k. gone_lines m.clients (kept.queue_at m.clients k)) name ∙ no_lines p m h o lives alone in
+    let done = go_does m heap m.active w m.messages n class reported which is gone less off shut drops p h o holds free typed fits in (
+      subst (λ t. Agrees p (places.next (record (with_tasks (below_first m.stack.tasks) m) { cells = heap; sessions = w; listed = t })) (reclaimed o h.below s)) listed
+          (subst (λ k. Agrees p (places.next (record (with_tasks (below_first m.stack.tasks) m) { cells = heap; sessions = w; clients = k; listed = unlisted n m.listed }))
+          (reclaimed o h.below s)) clients done.0),
+      ap (λ ls. record reported { lines = ls ++ Gone class ∷ [] }) (sym (append-nil reported.lines) ∙ ap (λ ls. reported.lines ++ ls) (sym lines)) ∙ done.1,
+    )
 
 -- what waits at a cell is kept, each once, so it can go
 pub can_reclaim : (p : Image) (m : Parts) → Stands (record { image = p; parts = m }) → (n : ℕ) → Lives m.cells n → CanReclaim n m

@@ -1,7 +1,9 @@
 -- Where a destruction begins.
-use Rattle.std.specs.Prelude.{ℕ, Bool, cond, is_some, List, [], ◌∷◌, Option, Some, None}
+use Rattle.std.specs.Prelude.{ℕ, Bool, cond, is_some, List, [], ◌∷◌, Option, Some, None, false}
 use Rattle.aom_image.specs.Image.{Image}
 use Rattle.aom_image.specs.Views.{method_class}
+use Rattle.aom_image.specs.WellFormed.{is_dispatched}
+use Rattle.aom_image.specs.declared.class.ClassKind.{ClassKind}
 use Rattle.aom_image.specs.declared.method.Role.TheVariants.{Destruct}
 use Rattle.aom_link_conditions.specs.Roles.{role_of}
 use Rattle.aom_roles.specs.Classes.{sessions_in}
@@ -38,6 +40,15 @@ destructed p (Some method) n ts = Run (destructor_frame p method n) ∷ ts
 -- objects of that class are servers
 abbrev pub is_server_class : Image → Option ℕ → Bool
 is_server_class p class = is_some (sessions_in (kind_of p class))
+
+-- objects of a class of that kind are dispatched
+abbrev pub dispatches : Option ClassKind → Bool
+dispatches None = false
+dispatches (Some kind) = is_dispatched kind
+
+-- objects of that class are
+abbrev pub is_dispatched_class : Image → Option ℕ → Bool
+is_dispatched_class p class = dispatches (kind_of p class)
 
 -- the destruction of a cell of that class begins over these tasks: of a server the sessions with it go first
 abbrev pub begun : Image → Option ℕ → ℕ → List Task → List Task

@@ -110,7 +110,7 @@ fn view_on(parts: &Parts, on_self: bool) -> View
 }
 
 /// Whom a call reaches on what it names.
-#[inline(never)]
+#[inline(always)]
 fn reached(
     parts: &Parts,
     target: Target,

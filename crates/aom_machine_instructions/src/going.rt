@@ -1,5 +1,6 @@
 //! Destruction: a cell is at hand, of a server the sessions with it go first, its destructor runs, and then it goes.
-ghost use Rattle.std.specs.Prelude.{◌≡◌, ◌<◌, ◌+◌, ◌∷◌, ◌^◌, ℕ, List, IfSome, IsSome, Some, length, true};
+ghost use Rattle.std.specs.Prelude.{◌≡◌, ◌<◌, ◌+◌, ◌∷◌, ◌^◌, ℕ, List, IfSome, IsSome, Some, length, false, true};
+ghost use Rattle.aom_image.specs.Image.{Image};
 ghost use Rattle.aom_image.specs.Views.{method_at};
 ghost use Rattle.aom_cells.specs.Heap.{Lives, class_at};
 ghost use Rattle.aom_instructions.specs.declared.instr.Instr.TheVariants.{Delete};
@@ -9,10 +10,10 @@ ghost use Rattle.aom_frames.specs.declared.task.Task.{Task as TaskRecord};
 ghost use Rattle.aom_frames.specs.declared.task.Task.TheVariants.{Destroy};
 ghost use Rattle.aom_frames.specs.Views.{view_in};
 ghost use Rattle.aom_semantics.specs.Destruction.{next_destructor};
-ghost use Rattle.aom_machine_instructions.specs.Acts.{CanGo, DoesIn, GoesAway, going_at, standing};
+ghost use Rattle.aom_machine_instructions.specs.Acts.{CanGo, DoesIn, GoesAway, GoesAwayIn, going_at, standing};
 ghost use Rattle.aom_machine_instructions.specs.declared.after.After.TheVariants.{CellGoes, RunsOn};
 ghost use Rattle.aom_machine_state.specs.Places.{next, with_tasks, IsClosing, IsDestroying, going_here};
-ghost use Rattle.aom_machine_instructions.specs.Going.{begun, destructed, destructor_frame, destructor_in, dying, is_server_class, root_removed};
+ghost use Rattle.aom_machine_instructions.specs.Going.{begun, destructed, destructor_frame, destructor_in, dying, is_dispatched_class, is_server_class, root_removed};
 ghost use Rattle.aom_machine_instructions.specs.Moves.{Moves};
 ghost use Rattle.aom_machine_instructions.specs.Next.{IsNext};
 ghost use Rattle.aom_machine_instructions.specs.Serving.{CanReclaim, answers};
@@ -116,13 +117,30 @@ pub fn begin(parts: &mut Parts, number: u32, linked: &Linked)
     }
 }
 
-/// Whether an object of that class goes with nothing before it: it is no server, and has no destructor.
+/// Whether objects of a class are dispatched.
 #[inline(always)]
-fn goes_at_once(class: ClassNumber, linked: &Linked) -> bool
-    ensures { result ≡ true → (number : ℕ) (tasks : List TaskRecord) → begun linked.now (Some class) number tasks ≡ Destroy number ∷ tasks }
+fn is_dispatched(class: ClassNumber, linked: &Linked) -> bool
+    ensures { result ≡ is_dispatched_class linked.now (Some class) }
+{
+    match linked
+        .image()
+        .classes()
+        .as_slice()
+        .get(class.number() as usize)
+    {
+        Some(class) => class.kind.is_dispatched(),
+        None => false,
+    }
+}
+
+/// Whether an object of that class goes with nothing before it, and nothing with it: it is not dispatched, and has no destructor.
+#[inline(always)]
+fn goes_alone(class: ClassNumber, linked: &Linked) -> bool
+    ensures begun { result ≡ true → (number : ℕ) (tasks : List TaskRecord) → begun linked.now (Some class) number tasks ≡ Destroy number ∷ tasks }
+    ensures alone { result ≡ true → is_dispatched_class linked.now (Some class) ≡ false }
 {
     match linked.role(class, Role::Destruct) {
-        None => !is_server(class, linked),
+        None => !is_dispatched(class, linked),
         Some(_) => false,
     }
 }
@@ -133,14 +151,14 @@ pub fn delete(parts: &mut Parts, from: Register, linked: &Linked) -> After
     requires { IsNext linked.now (Delete from) parts.old }
     ensures does { (refused : List ℕ) → DoesIn linked.now refused (Delete from) parts.old (standing result parts.new) }
     ensures runs { result ≡ RunsOn → TopFrameIs parts.new.stack.tasks }
-    ensures goes { (number : ℕ) → result ≡ CellGoes number → CanGo parts.new }
+    ensures goes { (number : ℕ) → result ≡ CellGoes number → CanGo linked.now number parts.new }
 {
     let number = parts.take_register(from);
     if number == NULL {
         parts.next();
         return After::RunsOn;
     }
-    if goes_at_once(parts.class(number), linked) {
+    if goes_alone(parts.class(number), linked) {
         return After::CellGoes(number);
     }
     begin(parts, number, linked);
@@ -223,4 +241,24 @@ pub fn reclaim(parts: &mut Parts, number: u32, lines: &mut LineBuffer)
     let class = parts.release(number);
     lines.push(Line::Gone(class));
     resume(parts);
+}
+
+/// The cell of that number goes over the method that runs, of a class whose objects are not dispatched: so it is not enlisted, and nothing
+/// waits at it. The method goes on. The task of its going is not on the stack.
+#[inline(always)]
+pub fn reclaim_alone(parts: &mut Parts, number: u32, lines: &mut LineBuffer)
+    requires lives { Lives parts.old.cells number }
+    requires small { IfSome (class_at parts.old.cells number) (λ class. class < 256) }
+    requires runs { TopFrameIs parts.old.stack.tasks }
+    requires within { place_here parts.old.stack.tasks + 1 < 2 ^ 64 }
+    requires room { length lines.old.lines < lines.old.room }
+    ensures gone { (p : Image) → is_dispatched_class p (class_at parts.old.cells number) ≡ false → GoesAwayIn p (going_at number parts.old) parts.new lines.old lines.new }
+    ensures runs { TopFrameIs parts.new.stack.tasks }
+{
+    let class = parts.class(number);
+    let id = parts.cells.living(number);
+    parts.sessions.close(id);
+    parts.cells.release(id);
+    lines.push(Line::Gone(class));
+    parts.next();
 }

@@ -23,7 +23,7 @@ mod words;
 
 pub use after::After;
 pub use closing::close;
-pub use going::{begin, close_next_session, reclaim};
+pub use going::{begin, close_next_session, reclaim, reclaim_alone};
 pub use leaving::unwind;
 pub use natives::TERMINATED;
 pub use performing::perform;

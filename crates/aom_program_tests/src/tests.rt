@@ -1,3 +1,4 @@
+mod answer;
 mod backlog;
 mod bell;
 mod cut;
@@ -5,10 +6,12 @@ mod debugging;
 mod explaining;
 mod family;
 mod faults;
+mod fixed_sink;
 mod input;
 mod memory;
 mod outcome_counts;
 mod output;
+mod page;
 mod pages;
 mod returned;
 mod served;

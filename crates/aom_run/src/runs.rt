@@ -1,5 +1,5 @@
 //! A run, from a fresh machine to its end, with its transcript.
-ghost use Rattle.std.specs.Prelude.{ℕ, true, ◌≡◌, ◌+◌, ◌<◌, ◌≤◌, All, take, IfNone, IfSome};
+ghost use Rattle.std.specs.Prelude.{ℕ, true, ◌≡◌, ◌+◌, ◌<◌, ◌≤◌, [], All, take, IfNone, IfOk, IfSome};
 ghost use Rattle.aom_semantics.specs.Places.{count_cells};
 ghost use Rattle.aom_semantics.specs.State.{State};
 ghost use Rattle.aom_determinism.specs.Determined.{IsDetermined};
@@ -17,11 +17,27 @@ ghost use Rattle.aom_natives.specs.Slots.{AllAgree};
 use crate::dispatches::run_dispatch;
 use crate::turns::take_turns;
 use crate::{HostedMachine, Outcome};
+use aom_budget::Accepted;
 use aom_machine::Progress;
 use aom_machine_state::LineBuffer;
 use aom_natives::Native;
 use aom_script::Script;
 use aom_transcript::{Ending, Page, Sink, TimedEvent, write_text};
+use std::alloc::{AllocError, Global};
+
+/// The buffer for the lines of a run of an accepted image, with the requests that a script refuses.
+pub fn line_buffer(
+    alloc: Global,
+    accepted: &Accepted,
+    script: &Script,
+) -> Result<LineBuffer, AllocError>
+    ensures lines { IfOk result (λ b. b.lines ≡ []) }
+    ensures refused { IfOk result (λ b. b.refused ≡ script.now.refused) }
+    ensures room { IfOk result (λ b. b.room ≡ 64 + step_lines accepted.now.header.messages) }
+{
+    let refused = Vec::from_slice(alloc, script.refused())?;
+    LineBuffer::new(alloc, accepted.linked(), refused)
+}
 
 /// Runs a fresh machine to its end and writes the transcript, one step after another. It stops where the sink fails.
 /// No other run of its image that hears the same of natives has another transcript.

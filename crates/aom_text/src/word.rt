@@ -46,6 +46,13 @@ impl<'a> WordCursor<'a> {
         WordCursor { rest: part }
     }
 
+    /// The same words, to be read on their own.
+    pub fn again(&self) -> WordCursor<'a>
+        ensures { result ≡ self.now }
+    {
+        WordCursor { rest: self.rest }
+    }
+
     /// The next word, which stays to be read.
     pub fn peek(&self) -> Option<&'a [u8]>
         ensures { option_map (λ w. w.now) result ≡ first_of self.now }

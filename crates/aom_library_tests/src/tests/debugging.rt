@@ -1,6 +1,6 @@
 //! A program that steps through a run with the debugger.
 use super::memory_sink::MemorySink;
-use aom_library::commands::{ExitStatus, asm_bytes, debug_bytes};
+use aom_library::commands::{ExitStatus, Program, Telling, asm, debug_bytes};
 use aom_library::debug::Reader;
 use aom_library::natives::Native;
 use std::test::Fail;
@@ -59,7 +59,8 @@ fn a_run_is_stepped_through(rt: HostRuntime) -> Result<(), Fail> {
     let mut image = MemorySink::new(alloc);
     let mut out = MemorySink::new(alloc);
     let mut errors = MemorySink::new(alloc);
-    let made = asm_bytes(alloc, TEXT.as_bytes(), &mut image, &mut errors);
+    let text = Program::Text(TEXT.as_bytes());
+    let made = asm(alloc, text, Telling::Plain, &mut image, &mut errors);
     assert!(rt; made == ExitStatus::Done);
     let boxes: Vec<Box<dyn Native>> = Vec::new(alloc);
     let mut commands = Commands {

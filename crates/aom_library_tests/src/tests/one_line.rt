@@ -1,6 +1,6 @@
 //! A program that tells what is wrong with an image in one line of its text.
 use super::memory_sink::MemorySink;
-use aom_library::commands::{ExitStatus, asm_bytes, check_as_line, report_unread};
+use aom_library::commands::{ExitStatus, Program, Telling, asm, check};
 use std::test::Fail;
 
 const TEXT: &[u8] = b"image budget 1\nmethod main main\nstop\nret\nend\n";
@@ -20,17 +20,12 @@ fn a_budget_that_is_too_low_is_reported_with_its_file_and_line(
     let mut image = MemorySink::new(alloc);
     let mut out = MemorySink::new(alloc);
     let mut errors = MemorySink::new(alloc);
-    let made = asm_bytes(alloc, TEXT, &mut image, &mut errors);
+    let text = Program::Text(TEXT);
+    let made = asm(alloc, text, Telling::Plain, &mut image, &mut errors);
     assert!(rt; made == ExitStatus::Done);
-    let status = check_as_line(
-        alloc,
-        image.text.as_slice(),
-        TEXT,
-        b"stops.aom",
-        false,
-        &mut out,
-        &mut errors,
-    );
+    let program = Program::ImageOfText(image.text.as_slice(), TEXT);
+    let telling = Telling::AsLine(b"stops.aom");
+    let status = check(alloc, program, telling, false, &mut out, &mut errors);
     assert!(rt; status == ExitStatus::ImageRefused);
     assert!(rt; out.text.is_empty());
     assert!(rt;
@@ -43,7 +38,8 @@ fn a_budget_that_is_too_low_is_reported_with_its_file_and_line(
 #[test]
 fn a_file_that_cannot_be_read_is_reported_with_its_name(rt: HostRuntime) -> Result<(), Fail> {
     let mut errors = MemorySink::new(rt.alloc());
-    let status = report_unread(rt.alloc(), b"stops.aom", b"it is elsewhere", &mut errors);
+    let why = b"it is elsewhere";
+    let status = Telling::Explained.report_unread(rt.alloc(), b"stops.aom", why, &mut errors);
     assert!(rt; status == ExitStatus::Fault);
     assert!(rt; errors.text.as_slice() == UNREAD);
     Ok(())

@@ -2,7 +2,7 @@
 ghost use Rattle.std.specs.Prelude.{pos, negsuc, ◌≡◌, [], option_to_list};
 
 use super::memory_sink::MemorySink;
-use aom_library::commands::{ExitStatus, asm_bytes, check_bytes, run_bytes};
+use aom_library::commands::{ExitStatus, Program, Telling, asm, check_bytes, run_bytes};
 use aom_library::natives::Native;
 use std::alloc::Global;
 use std::test::Fail;
@@ -85,7 +85,8 @@ fn accepted(alloc: Global) -> Option<Vec<u8>> {
     let mut image = MemorySink::new(alloc);
     let mut out = MemorySink::new(alloc);
     let mut errors = MemorySink::new(alloc);
-    let made = asm_bytes(alloc, TEXT.as_bytes(), &mut image, &mut errors);
+    let text = Program::Text(TEXT.as_bytes());
+    let made = asm(alloc, text, Telling::Plain, &mut image, &mut errors);
     if made != ExitStatus::Done {
         return None;
     }

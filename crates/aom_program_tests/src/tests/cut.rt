@@ -1,7 +1,7 @@
 //! Outputs that fail: what is out then is a beginning of what would have been written, and the fault is told.
+use super::page::BoundedPage;
 use super::pages::{Case, CommandCall, FIRST, SHORT, all_report, assembled, is_reported, reports};
 use aom_commands::{ExitStatus, run_bytes};
-use aom_test_sinks::BoundedPage;
 use std::alloc::Global;
 use std::process::Abort;
 use std::test::Fail;

@@ -1,18 +1,30 @@
 //! Explanations where memory is wanting, and where the output fails.
+use super::fixed_sink::FixedSink;
+use super::page::BoundedPage;
 use super::pages::FIRST;
 use aom_commands::{ExitStatus, Fault};
-use aom_diagnostic_commands::{check_explained, explanation};
-use aom_test_sinks::{BoundedPage, FixedSink};
+use aom_diagnostic_commands::{Program, Telling, check};
+use aom_transcript::Sink;
 use std::alloc::Global;
 use std::process::Abort;
-use std::test::Fail;
+
+/// Checks an image, and explains its fault.
+fn check_explained<W: Sink, E: Sink>(
+    alloc: Global,
+    image: &[u8],
+    out: &mut W,
+    errors: &mut E,
+) -> ExitStatus {
+    let program = Program::Image(image);
+    check(alloc, program, Telling::Explained, false, out, errors)
+}
 
 /// Whether a text that is no image is refused and explained. Else memory was wanting, and that is told. Nothing here but the command
 /// asks for memory.
 fn is_explained(rt: &impl Abort, alloc: Global) -> bool {
     let mut written = FixedSink::blank();
     let mut reported = FixedSink::blank();
-    let ended = check_explained(alloc, b"a text", false, &mut written, &mut reported);
+    let ended = check_explained(alloc, b"a text", &mut written, &mut reported);
     assert!(rt; written.has(b""));
     if ended == ExitStatus::Fault {
         let said =
@@ -36,11 +48,11 @@ fn explaining_may_want_memory(rt: HostRuntime) {
 }
 
 #[test]
-fn want_of_memory_is_explained(rt: HostRuntime) -> Result<(), Fail> {
-    let said = "memory: A request for memory was refused, whatever it was for.";
-    let text = explanation(rt.alloc(), &Fault::Memory, b"", b"")?;
-    assert!(rt; text.starts_with(said.as_bytes()));
-    Ok(())
+fn want_of_memory_is_explained(rt: HostRuntime) {
+    let said = b"memory\nmemory: A request for memory was refused, whatever it was for.";
+    let mut errors = BoundedPage::new(rt.alloc(), 4096);
+    let ended = Telling::Explained.report(rt.alloc(), &Fault::Memory, b"", &mut errors);
+    assert!(rt; ended == ExitStatus::Fault && errors.text.starts_with(said));
 }
 
 /// Whether a call ended and wrote so.
@@ -58,7 +70,7 @@ fn is(
 fn an_output_that_fails_is_explained(rt: HostRuntime) {
     let mut out = BoundedPage::new(rt.alloc(), 6);
     let mut errors = BoundedPage::new(rt.alloc(), 4096);
-    let ended = check_explained(rt.alloc(), &FIRST, false, &mut out, &mut errors);
+    let ended = check_explained(rt.alloc(), &FIRST, &mut out, &mut errors);
     let line =
         b"write\nwrite: The standard output took nothing more. What is out is a beginning.\nTo mend it: Look for a full disk, or a reader that has ended.\n";
     assert!(rt; is(ended, &out, &errors, b"accept", line));

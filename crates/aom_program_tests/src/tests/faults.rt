@@ -1,10 +1,10 @@
 //! What each fault writes of itself. The text is derived, and stands in no clause.
+use super::fixed_sink::FixedSink;
 use super::pages::FIRST;
 use aom_budget::BudgetFault;
-use aom_commands::{ExitStatus, Fault, Translation, try_run, try_translate};
+use aom_commands::{ExitStatus, Fault, assemble_bytes, try_run};
 use aom_debug_protocol::DebugFault;
 use aom_natives::BootFault;
-use aom_test_sinks::FixedSink;
 use std::alloc::Global;
 use std::fmt::Display;
 use std::process::Abort;
@@ -51,6 +51,7 @@ fn run_of(alloc: Global, case: &Case<'_>) -> Result<ExitStatus, Fault> {
         case.2,
         1_000_000,
         Vec::new(alloc),
+        None,
         &mut FixedSink::blank(),
     )
 }
@@ -69,7 +70,7 @@ fn a_run_that_is_refused_writes_its_fault(rt: HostRuntime) -> Result<(), Fail> {
 #[test]
 fn a_text_that_is_refused_writes_its_fault(rt: HostRuntime) -> Result<(), Fail> {
     let text = b"image budget 4\nfoo";
-    match try_translate(rt.alloc(), Translation::Asm, text, &mut FixedSink::blank()) {
+    match assemble_bytes(rt.alloc(), text) {
         Ok(_) => assert!(rt; false),
         Err(fault) => writes(&rt, rt.alloc(), &fault, "asm 2 2")?,
     }

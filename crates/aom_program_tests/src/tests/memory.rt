@@ -1,9 +1,9 @@
 //! Any request for memory may be refused: then a command says so, and writes nothing else. Nothing here but the
 //! command asks for memory. A trial of these tests refuses one request, so a call that wanted memory answers when it
 //! is made once more.
+use super::fixed_sink::FixedSink;
 use super::pages::{CommandCall, FIRST, FULL_HEAP, LISTING, SHORT, answer, sides};
 use aom_commands::{ExitStatus, Fault, report};
-use aom_test_sinks::FixedSink;
 use std::alloc::Global;
 use std::process::Abort;
 

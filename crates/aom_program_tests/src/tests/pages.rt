@@ -1,11 +1,11 @@
 //! What the tests share: two images and their texts, the calls of commands, and what each has to answer and to write.
 ghost use Rattle.aom_natives.specs.Owed.{OweNothing};
 
+use super::page::BoundedPage;
 use aom_commands::{
-    ExitStatus, asm_bytes, check_bytes, dis_bytes, dot_bytes, prices_bytes, run_bytes,
+    ExitStatus, Translation, check_bytes, prices_bytes, run_bytes, translate_bytes,
 };
 use aom_natives::Native;
-use aom_test_sinks::BoundedPage;
 use aom_transcript::Sink;
 use std::alloc::Global;
 use std::process::Abort;
@@ -64,11 +64,11 @@ pub fn answer<W: Sink, E: Sink>(
     errors: &mut E,
 ) -> ExitStatus {
     match *call {
-        CommandCall::Asm(text) => asm_bytes(alloc, text, out, errors),
+        CommandCall::Asm(text) => translate_bytes(alloc, Translation::Asm, text, out, errors),
         CommandCall::Check(image) => check_bytes(alloc, image, out, errors),
         CommandCall::Prices(image) => prices_bytes(alloc, image, out, errors),
-        CommandCall::Dis(image) => dis_bytes(alloc, image, out, errors),
-        CommandCall::Dot(image) => dot_bytes(alloc, image, out, errors),
+        CommandCall::Dis(image) => translate_bytes(alloc, Translation::Dis, image, out, errors),
+        CommandCall::Dot(image) => translate_bytes(alloc, Translation::Dot, image, out, errors),
         CommandCall::Run(image, script) => run_beside(
             alloc,
             image,

@@ -2,10 +2,10 @@
 ghost use Rattle.std.specs.Prelude.{◌≡◌, []};
 ghost use Rattle.aom_natives.specs.Owed.{OweNothing};
 
+use super::page::BoundedPage;
 use super::pages::{assembled, is_reported, run_beside};
 use aom_commands::ExitStatus;
 use aom_natives::Native;
-use aom_test_sinks::BoundedPage;
 use std::alloc::Global;
 use std::process::Abort;
 use std::test::Fail;

@@ -3,4 +3,4 @@ use Rattle.aom_commands.proofs.Untelling.{answered}
 use Rattle.aom_commands.proofs.commands.reported.Goals as goal
 
 pub returns : goal.returns
-returns g c = answered _ _ _ _ c.try_check.ensures c.answer.ensures
+returns g c = answered _ _ _ _ (rw c.none.ensures at c.try_check-found.ensures) c.answer.ensures

@@ -12,6 +12,6 @@ returns g c =
     ∙ ap class_names c.bytes.ensures.value in
     subst (λ names. Unreported (RunAnswersBy (named_text (class_word names)) c.args.image.now c.args.script.now c.args.limit (length c.args.boxes.items) (record {
       before = g.W.Sink.out c.args.out.now;
-      now = g.W.Sink.out c.try_run_named.new.out;
-      failed = g.W.Sink.failed c.try_run_named.new.out;
-    })) c.try_run_named.result) same c.try_run_named.ensures
+      now = g.W.Sink.out c.try_run.new.out;
+      failed = g.W.Sink.failed c.try_run.new.out;
+    })) c.try_run.result) same c.try_run.ensures

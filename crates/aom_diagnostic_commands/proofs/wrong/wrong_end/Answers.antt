@@ -1,5 +1,5 @@
 -- The word is wrong, or a byte more is behind.
-use Rattle.std.proofs.Common.{◌≢◌, ◌∙◌, ◌+◌, ◌<◌, arith, sym}
+use Rattle.std.proofs.Common.{◌∙◌, ◌+◌, ◌<◌, arith, sym}
 use Rattle.std.proofs.lemmas.Bool.{false≢true}
 use Rattle.aom_diagnostic_commands.proofs.Searching.{found, gone_on, start_of}
 use Rattle.aom_diagnostic_commands.proofs.wrong.wrong_end.Goals as goal

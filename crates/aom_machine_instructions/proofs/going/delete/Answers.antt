@@ -5,7 +5,7 @@ use Rattle.aom_machine_instructions.proofs.Finding.{destroys_living}
 use Rattle.aom_machine_instructions.proofs.GoingActs.{destroy_object_does}
 use Rattle.aom_machine_instructions.proofs.ObjectActs.{destroy_null_does}
 use Rattle.aom_machine_instructions.proofs.Resulting.{on_top_long, on_top_runs}
-use Rattle.aom_machine_instructions.proofs.Standing.{destroy_alone_does}
+use Rattle.aom_machine_instructions.proofs.Standing.{destroy_alone_does, same_cell}
 use Rattle.aom_machine_instructions.proofs.going.delete.Goals as goal
 
 pub begin-requires-clause-lives : goal.begin-requires-clause-lives
@@ -27,18 +27,23 @@ returns-then-number-clause-runs c = λ still. rw (c.next.ensures, c.take_registe
 
 -- ---- one that goes at once
 
-pub returns-then-goes_at_once-clause-does : goal.returns-then-goes_at_once-clause-does
-returns-then-goes_at_once-clause-does c = λ refused.
+pub returns-then-goes_alone-clause-does : goal.returns-then-goes_alone-clause-does
+returns-then-goes_alone-clause-does c = λ refused.
     let class = rw (c.take_register-number.ensures.emptied, c.take_register-number.ensures.value) at c.class.ensures in
     rw (c.take_register-number.ensures.emptied, c.take_register-number.ensures.value)
     (destroy_alone_does c.args.linked.now c.args.parts.now refused _ c.args.from refl c.take_register-number.ensures.in_range
-    (λ e. c.if-number.false (c.take_register-number.ensures.value ∙ e)) c.class.result class (c.goes_at_once.ensures c.if-goes_at_once.true _ _))
+    (λ e. c.if-number.false (c.take_register-number.ensures.value ∙ e)) c.class.result class (c.goes_alone.ensures.begun c.if-goes_alone.true _ _))
 
-pub returns-then-goes_at_once-clause-goes : goal.returns-then-goes_at_once-clause-goes
-returns-then-goes_at_once-clause-goes c = λ number is. rw c.take_register-number.ensures.emptied
-    (let long = on_top_long (with_register c.args.from null) c.args.parts.now.stack.tasks in
+pub returns-then-goes_alone-clause-goes : goal.returns-then-goes_alone-clause-goes
+returns-then-goes_alone-clause-goes c = λ number is.
+    let class = rw (c.take_register-number.ensures.emptied) at c.class.ensures in
+    let long = on_top_long (with_register c.args.from null) c.args.parts.now.stack.tasks in
     let room = c.requires.room in
-    (on_top_runs _ _ c.requires.runs, omega (arith, long, room)))
+    rw c.take_register-number.ensures.emptied (record {
+      runs = on_top_runs _ _ c.requires.runs;
+      room = omega (arith, long, room);
+      alone = rw (← same_cell _ _ is, class) (c.goes_alone.ensures.alone c.if-goes_alone.true);
+    })
 
 -- ---- another
 

@@ -1,17 +1,19 @@
 //! Debugging sessions whose reader or output fails.
 use super::programs::{CANCELS, CANCELS_ASKED};
 use super::readers::{Stuck, Typed};
-use aom_commands::{ExitStatus, asm_bytes};
+use crate::tests::answer::CallAnswer;
+use crate::tests::page::BoundedPage;
+use aom_commands::{ExitStatus, Translation, translate_bytes};
 use aom_debug::{Reader, debug_bytes};
 use aom_natives::Native;
-use aom_test_sinks::{BoundedPage, CallAnswer};
 use std::alloc::Global;
 
 /// The bytes of the image of a program.
 fn image_of(alloc: Global, program: &str) -> Vec<u8> {
     let mut image = BoundedPage::new(alloc, 4096);
     let mut errors = BoundedPage::new(alloc, 100);
-    asm_bytes(alloc, program.as_bytes(), &mut image, &mut errors);
+    let text = program.as_bytes();
+    translate_bytes(alloc, Translation::Asm, text, &mut image, &mut errors);
     image.text
 }
 

@@ -1,15 +1,16 @@
 //! Any request for memory may be refused: then nothing is told of the session but that. None is made once it has begun.
 use super::programs::{CANCELS, CANCELS_ASKED, CANCELS_REPORTED};
 use super::readers::Typed;
-use aom_commands::{ExitStatus, asm_bytes};
+use crate::tests::fixed_sink::FixedSink;
+use crate::tests::page::BoundedPage;
+use aom_commands::{ExitStatus, Translation, translate_bytes};
 use aom_debug::debug_bytes;
 use aom_natives::Native;
-use aom_test_sinks::{BoundedPage, FixedSink};
 use std::alloc::Global;
 
 /// How the cancel is assembled.
 fn assembles(alloc: Global, image: &mut BoundedPage, errors: &mut FixedSink) -> ExitStatus {
-    asm_bytes(alloc, CANCELS.as_bytes(), image, errors)
+    translate_bytes(alloc, Translation::Asm, CANCELS.as_bytes(), image, errors)
 }
 
 /// How a session on an image ends.

@@ -1,6 +1,0 @@
--- What was not told yet is an answer, or is told and explained.
-use Rattle.aom_diagnostic_commands.proofs.Behind.{answered}
-use Rattle.aom_diagnostic_commands.proofs.commands.run_explained.Goals as goal
-
-pub returns : goal.returns
-returns g c = answered _ _ _ _ _ c.try_run-found.ensures c.answer_explained.ensures

@@ -1,0 +1,4 @@
+pub mod Standing
+pub mod Trees
+pub mod Unique
+pub mod Weights

@@ -1,0 +1,6 @@
+pub mod Bytes
+pub mod Keywords
+pub mod Marks
+pub mod Numbers
+pub mod Places
+pub mod Tokens
