@@ -220,9 +220,9 @@ impl<'s, 't, 'a> Generator<'s, 't, 'a> {
 
     /// The ways to a label end a way of a statement.
     fn name_ways(&mut self, label: LabelId, edge: Edge) {
-        if label.0 < self.ways.len() {
-            for at in 0..self.ways[label.0].len() {
-                self.ways[label.0][at].edge = Some(edge);
+        if let Some(ways) = self.ways.get_mut(label.0) {
+            for way in ways.iter_mut() {
+                way.edge = Some(edge);
             }
         }
     }

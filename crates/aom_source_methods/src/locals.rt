@@ -119,13 +119,11 @@ impl<'s, 't, 'a> Generator<'s, 't, 'a> {
     }
 
     fn remember(&mut self, local: Local<'a>) -> Result<(), Fault<'a>> {
-        for at in 0..self.owners.len() {
-            if self.owners[at].id == local.id {
-                self.owners[at] = local;
-                return Ok(());
-            }
+        let found = self.owners.iter().position(|owner| owner.id == local.id);
+        match found {
+            Some(at) if at < self.owners.len() => self.owners[at] = local,
+            _ => self.owners.push(local)?,
         }
-        self.owners.push(local)?;
         Ok(())
     }
 

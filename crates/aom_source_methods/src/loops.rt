@@ -18,7 +18,7 @@ pub struct OpenLoop {
 #[derive(Drop)]
 pub struct LoopFrame<'a> {
     pub item: usize,
-    pub level: usize,
+    pub level: i64,
     pub head: LabelId,
     pub next: LabelId,
     pub end: LabelId,
@@ -81,10 +81,10 @@ impl<'s, 't, 'a> Generator<'s, 't, 'a> {
         let token = self.source.token(at);
         self.open()?;
         let counter = self.counter(at, items.first)?;
-        let level = self.loops.len();
+        let level = self.loops.len() as i64;
         let notes = self.notes.loop_at(at)?;
         self.unguard_widened(notes, token)?;
-        let operands = two(Operand::Number(level as i64), Operand::Number(items.rounds));
+        let operands = two(Operand::Number(level), Operand::Number(items.rounds));
         self.emit(Operation::Loop, operands, token)?;
         self.widen_start(at, notes)?;
         let frame = LoopFrame {
@@ -233,10 +233,7 @@ impl<'s, 't, 'a> Generator<'s, 't, 'a> {
             self.count(&frame, token)?;
             self.compare_rounds(&frame, round)?;
         }
-        let operands = two(
-            Operand::Number(frame.level as i64),
-            Operand::Label(frame.head),
-        );
+        let operands = two(Operand::Number(frame.level), Operand::Label(frame.head));
         self.emit(Operation::Next, operands, token)?;
         let out = self.edge(frame.item, Turn::Out);
         self.end_way(out, token)?;
