@@ -174,9 +174,6 @@ impl<'s, 't, 'a> Generator<'s, 't, 'a> {
             return self.if_done(frame);
         }
         frame.is_then_first = falls_true;
-        if !frame.has_other && falls_true {
-            self.name_ways(frame.end, self.edge(frame.item, Turn::Else));
-        }
         self.begin_parts(frame)
     }
 
@@ -194,9 +191,6 @@ impl<'s, 't, 'a> Generator<'s, 't, 'a> {
         };
         let tested = self.name_test(at)?;
         self.lead_on(tested, branches, self.source.token(at))?;
-        if !frame.has_other {
-            self.name_ways(frame.end, self.edge(frame.item, Turn::Else));
-        }
         self.begin_parts(frame)
     }
 
@@ -216,15 +210,6 @@ impl<'s, 't, 'a> Generator<'s, 't, 'a> {
             falls_true: !branches.falls_true,
         };
         self.condition(begin, end, turned)
-    }
-
-    /// The ways to a label end a way of a statement.
-    fn name_ways(&mut self, label: LabelId, edge: Edge) {
-        if let Some(ways) = self.ways.get_mut(label.0) {
-            for way in ways.iter_mut() {
-                way.edge = Some(edge);
-            }
-        }
     }
 
     /// Puts a part off to the method's end.
@@ -397,9 +382,9 @@ impl<'s, 't, 'a> Generator<'s, 't, 'a> {
     }
 
     fn first_done(&mut self, frame: IfFrame<'a>) -> Result<(), Fault<'a>> {
-        let (first, _) = self.turns(frame);
+        let (first, second) = self.turns(frame);
         if !frame.has_other && frame.is_then_first {
-            self.place(frame.end, Some(first))?;
+            self.place_among(frame.end, Some(first), Some(second))?;
             return self.if_done(frame);
         }
         self.jump(frame.end, self.source.token(frame.item), Some(first))?;

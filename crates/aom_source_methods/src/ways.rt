@@ -37,6 +37,16 @@ impl<'s, 't, 'a> Generator<'s, 't, 'a> {
 
     /// Puts a label here: the ways to it and the one that comes here are joined.
     pub fn place(&mut self, label: LabelId, edge: Option<Edge>) -> Result<(), Fault<'a>> {
+        self.place_among(label, edge, None)
+    }
+
+    /// The same, where the ways that end nothing of their own end what is told of the others.
+    pub fn place_among(
+        &mut self,
+        label: LabelId,
+        edge: Option<Edge>,
+        others: Option<Edge>,
+    ) -> Result<(), Fault<'a>> {
         if let Some(state) = self.state.take() {
             self.lead(label, state, edge)?;
         }
@@ -44,7 +54,7 @@ impl<'s, 't, 'a> Generator<'s, 't, 'a> {
         let Some(ways) = self.ways.get(label.0) else {
             return Err(Fault::internal());
         };
-        match join(self.alloc, ways, &mut self.notes, self.item) {
+        match join(self.alloc, ways, others, &mut self.notes, self.item) {
             Ok(state) => {
                 self.state = state;
                 Ok(())

@@ -38,10 +38,11 @@ impl<T: Drop> From<AllocFailed<T>> for JoinFault {
 }
 
 /// What is known where some ways come together, at the statement of an item. Where no way leads nothing is known.
-/// What one way has moved the others are noted to delete.
+/// What one way has moved the others are noted to delete. A way that ends no part of a statement ends what is told of the others.
 pub fn join(
     alloc: Global,
     ways: &Vec<Way>,
+    others: Option<Edge>,
     notes: &mut Notes,
     item: usize,
 ) -> Result<Option<State>, JoinFault> {
@@ -50,7 +51,7 @@ pub fn join(
     };
     let mut joined = first.state.copy(alloc)?;
     for owner in &first.state.owners {
-        match join_owner(ways, notes, item, owner.id)? {
+        match join_owner(ways, others, notes, item, owner.id)? {
             Some(found) => joined.set(found)?,
             None => joined.forget(owner.id),
         }
@@ -118,6 +119,7 @@ impl Found {
 /// What is known of an owner where the ways come together, or nothing if one of them does not know it.
 fn join_owner(
     ways: &Vec<Way>,
+    others: Option<Edge>,
     notes: &mut Notes,
     item: usize,
     id: OwnerId,
@@ -143,9 +145,9 @@ fn join_owner(
         if found.is_message {
             return Err(JoinFault::MessageOnOneWay(id));
         }
-        delete_elsewhere(ways, notes, id)?;
+        delete_elsewhere(ways, others, notes, id)?;
     } else if 0 < found.live && 0 < found.guarded && found.guarded < ways.len() {
-        unguard_elsewhere(ways, notes, id)?;
+        unguard_elsewhere(ways, others, notes, id)?;
     }
     Ok(Some(settled(found, ways.len(), item, id)))
 }
@@ -180,21 +182,31 @@ fn settled(found: Found, ways: usize, item: usize, id: OwnerId) -> Owner {
     }
 }
 
-fn delete_elsewhere(ways: &Vec<Way>, notes: &mut Notes, id: OwnerId) -> Result<(), JoinFault> {
+fn delete_elsewhere(
+    ways: &Vec<Way>,
+    others: Option<Edge>,
+    notes: &mut Notes,
+    id: OwnerId,
+) -> Result<(), JoinFault> {
     for way in ways {
         if is_live(way, id) {
-            let edge = way.edge.ok_or(JoinFault::GuardedOnOneWay(id))?;
+            let edge = way.edge.or(others).ok_or(JoinFault::GuardedOnOneWay(id))?;
             notes.delete(edge, id)?;
         }
     }
     Ok(())
 }
 
-fn unguard_elsewhere(ways: &Vec<Way>, notes: &mut Notes, id: OwnerId) -> Result<(), JoinFault> {
+fn unguard_elsewhere(
+    ways: &Vec<Way>,
+    others: Option<Edge>,
+    notes: &mut Notes,
+    id: OwnerId,
+) -> Result<(), JoinFault> {
     for way in ways {
         match way.state.owner(id) {
             Some(owner) if owner.is_guarded && owner.status.is_live() => {
-                let edge = way.edge.ok_or(JoinFault::GuardedOnOneWay(id))?;
+                let edge = way.edge.or(others).ok_or(JoinFault::GuardedOnOneWay(id))?;
                 notes.unguard(edge, id)?;
             }
             _ => {}
