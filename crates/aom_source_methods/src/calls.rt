@@ -225,21 +225,29 @@ impl<'s, 't, 'a> Generator<'s, 't, 'a> {
         let Some(Frame::Call(frame)) = machine.frames.pop() else {
             return Err(Fault::internal());
         };
+        self.finish_call(machine, &frame)
+    }
+
+    fn finish_call(
+        &mut self,
+        machine: &mut Machine<'a>,
+        frame: &CallFrame<'a>,
+    ) -> Result<(), Fault<'a>> {
         let token = self.source.token(frame.at);
         let Some(arguments) = &frame.arguments else {
             return Err(Fault::internal());
         };
         self.end_arguments(arguments, token)?;
         self.check_callee(frame.callee, frame.method, token)?;
-        self.check_states(&frame, token)?;
-        self.check_effects(&frame, token)?;
-        self.make_call(&frame, arguments.base, token)?;
+        self.check_states(frame, token)?;
+        self.check_effects(frame, token)?;
+        self.make_call(frame, arguments.base, token)?;
         self.top = if frame.is_trapped {
             frame.mark
         } else {
             frame.kept
         };
-        self.end_result(machine, &frame)
+        self.end_result(machine, frame)
     }
 
     fn end_result(

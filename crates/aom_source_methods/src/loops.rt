@@ -87,18 +87,20 @@ impl<'s, 't, 'a> Generator<'s, 't, 'a> {
         let operands = two(Operand::Number(level), Operand::Number(items.rounds));
         self.emit(Operation::Loop, operands, token)?;
         self.widen_start(at, notes)?;
+        let labels = (self.new_label()?, self.new_label()?, self.new_label()?);
+        self.code.place(labels.0);
+        let start = self.start_state()?;
         let frame = LoopFrame {
             item: at,
             level,
-            head: self.new_label()?,
-            next: self.new_label()?,
-            end: self.new_label()?,
+            head: labels.0,
+            next: labels.1,
+            end: labels.2,
             notes,
-            start: self.start_state()?,
+            start,
             counter,
             last: self.source.partner(items.block),
         };
-        self.code.place(frame.head);
         self.begin_rounds(frame, items.block)
     }
 
@@ -180,18 +182,19 @@ impl<'s, 't, 'a> Generator<'s, 't, 'a> {
     }
 
     fn begin_rounds(&mut self, frame: LoopFrame<'a>, block: usize) -> Result<(), Fault<'a>> {
-        self.loops.push(OpenLoop {
+        let (at, last) = (frame.item, frame.last);
+        let open = OpenLoop {
             next: frame.next,
             end: frame.end,
             scopes: self.scopes.len(),
-        })?;
-        self.open()?;
-        let (at, last) = (frame.item, frame.last);
+        };
         self.regions.push(Region {
             at: block.saturating_add(1),
             end: last,
             after: After::Loop(frame),
         })?;
+        self.loops.push(open)?;
+        self.open()?;
         if self.source.action(at) == Action::While {
             let test = at.saturating_add(1);
             self.item = test;
@@ -220,8 +223,20 @@ impl<'s, 't, 'a> Generator<'s, 't, 'a> {
     }
 
     /// The statements of a loop have been translated.
-    pub fn end_loop(&mut self, frame: LoopFrame<'a>) -> Result<(), Fault<'a>> {
+    pub fn end_loop(&mut self, frame: &LoopFrame<'a>) -> Result<(), Fault<'a>> {
         let token = self.source.token(frame.last);
+        self.end_round(frame, token)?;
+        let operands = two(Operand::Number(frame.level), Operand::Label(frame.head));
+        self.emit(Operation::Next, operands, token)?;
+        let out = self.edge(frame.item, Turn::Out);
+        self.end_way(out, token)?;
+        self.place(frame.end, Some(out))?;
+        self.shut(token)?;
+        self.end_statement(self.source.token(frame.item))
+    }
+
+    /// The end of a round: the ways to it come together, and what the round leaves behind is compared.
+    fn end_round(&mut self, frame: &LoopFrame<'a>, token: u32) -> Result<(), Fault<'a>> {
         self.shut(token)?;
         self.item = frame.item;
         self.token = token;
@@ -230,16 +245,10 @@ impl<'s, 't, 'a> Generator<'s, 't, 'a> {
         self.place(frame.next, Some(round))?;
         let _ = self.loops.pop();
         if self.is_reached() {
-            self.count(&frame, token)?;
-            self.compare_rounds(&frame, round)?;
+            self.count(frame, token)?;
+            self.compare_rounds(frame, round)?;
         }
-        let operands = two(Operand::Number(frame.level), Operand::Label(frame.head));
-        self.emit(Operation::Next, operands, token)?;
-        let out = self.edge(frame.item, Turn::Out);
-        self.end_way(out, token)?;
-        self.place(frame.end, Some(out))?;
-        self.shut(token)?;
-        self.end_statement(self.source.token(frame.item))
+        Ok(())
     }
 
     fn count(&mut self, frame: &LoopFrame<'a>, token: u32) -> Result<(), Fault<'a>> {

@@ -96,22 +96,25 @@ impl<'s, 't, 'a> Generator<'s, 't, 'a> {
         if matches!(machine.frames.last(), Some(Frame::Call(_))) {
             return self.end_call(machine, at);
         }
-        let Some(Frame::New(mut frame)) = machine.frames.pop() else {
+        let Some(Frame::New(frame)) = machine.frames.pop() else {
             return Err(Fault::internal());
         };
+        self.finish_new(machine, &frame)
+    }
+
+    fn finish_new(
+        &mut self,
+        machine: &mut Machine<'a>,
+        frame: &NewFrame<'a>,
+    ) -> Result<(), Fault<'a>> {
         let token = self.source.token(frame.at);
-        let arguments = frame.arguments.take().ok_or(Fault::internal())?;
-        self.end_arguments(&arguments, token)?;
-        let null = if frame.takes_owners {
-            None
-        } else {
-            self.make_object(&frame, token)?
+        let Some(arguments) = &frame.arguments else {
+            return Err(Fault::internal());
         };
-        if !frame.takes_owners && frame.construct.is_some() {
-            self.guard_new(&frame, token)?;
-        }
+        self.end_arguments(arguments, token)?;
+        let null = self.make_behind(frame, token)?;
         if let Some(construct) = frame.construct {
-            self.construct(&frame, construct, arguments.base, token)?;
+            self.construct(frame, construct, arguments.base, token)?;
         }
         let mut local = frame.local;
         if frame.is_maybe {
@@ -125,6 +128,22 @@ impl<'s, 't, 'a> Generator<'s, 't, 'a> {
         }
         machine.refine(local);
         self.settle(token)
+    }
+
+    /// Makes the object behind its arguments, unless it was made before them.
+    fn make_behind(
+        &mut self,
+        frame: &NewFrame<'a>,
+        token: u32,
+    ) -> Result<Option<LabelId>, Fault<'a>> {
+        if frame.takes_owners {
+            return Ok(None);
+        }
+        let null = self.make_object(frame, token)?;
+        if frame.construct.is_some() {
+            self.guard_new(frame, token)?;
+        }
+        Ok(null)
     }
 
     fn site(&self, frame: &NewFrame<'a>) -> Site {

@@ -39,7 +39,7 @@ impl<'s, 't, 'a> Generator<'s, 't, 'a> {
             After::Body => Ok(()),
             After::Then(frame) => self.end_then(frame),
             After::Else(frame) => self.end_else(frame),
-            After::Loop(frame) => self.end_loop(frame),
+            After::Loop(frame) => self.end_loop(&frame),
             After::Catch(frame) => self.end_catch(frame),
             After::Deferred(token) => self.shut(token),
         }
