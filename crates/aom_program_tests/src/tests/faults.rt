@@ -70,11 +70,11 @@ fn a_run_that_is_refused_writes_its_fault(rt: HostRuntime) -> Result<(), Fail> {
 #[test]
 fn a_text_that_is_refused_writes_its_fault(rt: HostRuntime) -> Result<(), Fail> {
     let text = b"image budget 4\nfoo";
-    match assemble_bytes(rt.alloc(), text) {
-        Ok(_) => assert!(rt; false),
-        Err(fault) => writes(&rt, rt.alloc(), &fault, "asm 2 2")?,
-    }
-    Ok(())
+    let Err(fault) = assemble_bytes(rt.alloc(), text) else {
+        assert!(rt; false);
+        return Ok(());
+    };
+    writes(&rt, rt.alloc(), &fault, "asm 2 2")
 }
 
 /// Faults of larger images, and those of the program's own.
