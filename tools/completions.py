@@ -3,7 +3,7 @@
 import form
 
 # the ending of the files that an argument or an option's value names
-ENDINGS = {"IMAGE": "image", "SCRIPT": "script", "TEXT": "aom", "SOURCE": "ao"}
+ENDINGS = {"IMAGE": "image", "SCRIPT": "script", "TEXT": "aom"}
 MADE = "made by tools/manual"
 
 

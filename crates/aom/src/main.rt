@@ -16,7 +16,6 @@ use aom_diagnostic_commands::{Program, Telling, asm, check, debug, dot, explore,
 use aom_fault_injection::{Part, Tries};
 use aom_host::{Input, Output, ReadError, read_file};
 use aom_natives::{Counter, Delay, Line, Native, NativeKind};
-use aom_source_commands::compile_source;
 use aom_transcript::{Sink, write_text};
 use program::ProgramFiles;
 use std::env;
@@ -192,13 +191,6 @@ fn execute<'a, W: Sink, E: Sink>(
         Words::Asm { text, .. } => {
             let text = read_file(rt, text)?;
             Ok(asm(alloc, Program::Text(&text), telling, out, errors))
-        }
-        Words::Compile { source } => {
-            let text = read_file(rt, source)?;
-            match compile_source(alloc, source.as_bytes(), &text, out, errors) {
-                Ok(status) => Ok(status),
-                Err(fault) => Ok(telling.report(alloc, &fault, b"", errors)),
-            }
         }
         Words::Dis { image } => {
             let image = read_file(rt, image)?;

@@ -18,7 +18,7 @@ use Rattle.aom_natives.specs.declared.kind.NativeKind.{NativeKind}
 use Rattle.aom_command_line.specs.declared.words.RunWords.{RunWords}
 use Rattle.aom_command_line.specs.declared.words.TriesWords.{TriesWords}
 use Rattle.aom_command_line.specs.declared.words.Words.{Words}
-use Rattle.aom_command_line.specs.declared.words.Words.TheVariants.{Check, Run, Explore, Debug, Asm, Dis, Compile, Dot}
+use Rattle.aom_command_line.specs.declared.words.Words.TheVariants.{Check, Run, Explore, Debug, Asm, Dis, Dot}
 use Rattle.aom_command_line.specs.declared.words.WordsFault.{WordsFault}
 use Rattle.aom_command_line.specs.declared.words.WordsFault.TheVariants as faults
 
@@ -126,10 +126,6 @@ asm_form = with_rule (with_rule (new_app (codes "asm")) explain_rule) (file_rule
 abbrev pub dis_form : App
 dis_form = with_rule (new_app (codes "dis")) (file_rule (codes "IMAGE"))
 
--- compile SOURCE
-abbrev pub compile_form : App
-compile_form = with_rule (new_app (codes "compile")) (file_rule (codes "SOURCE"))
-
 -- dot [--text TEXT] [--asm] IMAGE
 abbrev pub dot_form : App
 dot_form = with_rule (with_rule (with_rule (new_app (codes "dot")) text_rule) asm_rule) (file_rule (codes "IMAGE"))
@@ -156,9 +152,7 @@ abbrev pub bare_form : App
 bare_form = record { top = record (new_app (codes "aom")).top { has_version = true; subcommand_required = true }; subs = [] }
 
 abbrev pub form : App
-form =
-    with_subcommand (with_subcommand (with_subcommand (with_subcommand (with_subcommand (with_subcommand (with_subcommand (with_subcommand bare_form check_form.top) run_form.top) explore_form.top) debug_form.top)
-    asm_form.top) dis_form.top) dot_form.top) compile_form.top
+form = with_subcommand (with_subcommand (with_subcommand (with_subcommand (with_subcommand (with_subcommand (with_subcommand bare_form check_form.top) run_form.top) explore_form.top) debug_form.top) asm_form.top) dis_form.top) dot_form.top
 
 -- the texts of words
 abbrev pub texts_of : {A : Type 0} → List (String A) → List Text
@@ -297,15 +291,12 @@ Asks (Some met) (Explore run tries text) = (met.0 ≡ codes "explore") × AsksRu
 Asks (Some met) (Debug run text) = (met.0 ≡ codes "debug") × AsksRun met.1 run × AsksText met.1 true run.asm text
 Asks (Some met) (Asm text explain) = (met.0 ≡ codes "asm") × (string_bytes text ≡ word_of (codes "TEXT") met.1) × IsFlag (one_of (codes "explain") met.1) explain
 Asks (Some met) (Dis image) = (met.0 ≡ codes "dis") × (string_bytes image ≡ word_of (codes "IMAGE") met.1)
-Asks (Some met) (Compile source) = (met.0 ≡ codes "compile") × (string_bytes source ≡ word_of (codes "SOURCE") met.1)
 Asks (Some met) (Dot image asm text) = (met.0 ≡ codes "dot") × (string_bytes image ≡ word_of (codes "IMAGE") met.1) × IsFlag (one_of (codes "asm") met.1) asm × AsksText met.1 true asm text
 
 -- it is one of the program's commands
 abbrev pub IsCommand : Option (Text × List Row) → Type 0
 IsCommand None = ⊥
-IsCommand (Some met) =
-    (met.0 ≡ codes "check") ⊎ (met.0 ≡ codes "run") ⊎ (met.0 ≡ codes "explore") ⊎ (met.0 ≡ codes "debug") ⊎ (met.0 ≡ codes "asm") ⊎ (met.0 ≡ codes "dis") ⊎ (met.0 ≡ codes "dot")
-    ⊎ (met.0 ≡ codes "compile")
+IsCommand (Some met) = (met.0 ≡ codes "check") ⊎ (met.0 ≡ codes "run") ⊎ (met.0 ≡ codes "explore") ⊎ (met.0 ≡ codes "debug") ⊎ (met.0 ≡ codes "asm") ⊎ (met.0 ≡ codes "dis") ⊎ (met.0 ≡ codes "dot")
 
 -- it is a command that runs an image, with a word of no native or one word too many
 abbrev pub NamesNoNatives : Option (Text × List Row) → Type 0
@@ -344,5 +335,4 @@ KeepsLimit (Explore run tries text) = (1 ≤ run.limit) × (run.limit ≤ 100000
 KeepsLimit (Debug run text) = (1 ≤ run.limit) × (run.limit ≤ 1000000000)
 KeepsLimit (Asm text explain) = Unit {0}
 KeepsLimit (Dis image) = Unit {0}
-KeepsLimit (Compile source) = Unit {0}
 KeepsLimit (Dot image asm text) = Unit {0}

@@ -2,7 +2,7 @@
 ghost use Rattle.std.specs.Prelude.{◌≡◌, ◌≢◌, ◌≤◌, ◌⊎◌, IfOk, IfErr, IsOkAnd, None, Some, false, true, codes, length};
 ghost use Rattle.std.specs.String.{string_bytes};
 ghost use Rattle.clap.specs.Words.{AddsArg, AddsSubcommand, App, all_of, app_of, first_of, found_of, kind_of, one_of, rows_of, subcommand_of, subcommand_rows_of, takes, with_subcommand};
-ghost use Rattle.aom_command_line.specs.CommandLine.{asm_form, check_form, compile_form, debug_form, dis_form, dot_form, explore_form, run_form, form, texts_of, with_files, word_of, Asks, AsksLines, AsksNames, AsksRun, AsksText, AsksTries, Declines, DeclinesLines, DeclinesNatives, DeclinesRun, DeclinesText, DeclinesTextless, HasForm, IsFlag, IsNumberUpTo, KeepsLimit, NamesKinds, Says, texts_in};
+ghost use Rattle.aom_command_line.specs.CommandLine.{asm_form, check_form, debug_form, dis_form, dot_form, explore_form, run_form, form, texts_of, with_files, word_of, Asks, AsksLines, AsksNames, AsksRun, AsksText, AsksTries, Declines, DeclinesLines, DeclinesNatives, DeclinesRun, DeclinesText, DeclinesTextless, HasForm, IsFlag, IsNumberUpTo, KeepsLimit, NamesKinds, Says, texts_in};
 
 use crate::args::{
     asm_arg, deaths_arg, explain_arg, file_arg, from_arg, kills_arg, limit_arg, lines_arg,
@@ -59,10 +59,6 @@ pub enum Words {
     },
     Dis {
         image: String,
-    },
-    /// A source is to be compiled to an assembly text.
-    Compile {
-        source: String,
     },
     Dot {
         image: String,
@@ -144,8 +140,8 @@ const VERSION: &str = "0.1.0";
 
 /// What stands below the list of commands: what the files are, and the exit statuses.
 const NOTES: &str = "\
-A source is a program as you write it, a text the same as assembly, as compile makes it, and an image the
-same in bytes, as asm makes it. With --asm a command takes the text itself. A script says what happens to a run from outside, line by line; it may be empty.
+A text is a program as you write it, and an image the same in bytes, as asm makes it. With --asm a command
+takes the text itself. A script says what happens to a run from outside, line by line; it may be empty.
 With --explain, check, run and asm say what a fault means, where it is and what usually mends it.
 
 Exit status:
@@ -199,17 +195,16 @@ fn with_uses<'a>(alloc: Global, command: Command<'a>) -> Result<Command<'a>, All
     with_made(command, debug_command(alloc))
 }
 
-/// Adds what makes an image of a text, texts of an image, and a text of a source.
+/// Adds what makes an image of a text, and texts of an image.
 fn with_translations<'a>(
     alloc: Global,
     command: Result<Command<'a>, AllocError>,
 ) -> Result<Command<'a>, AllocError>
-    ensures { (to : App) → IfOk command.entry (λ c. app_of c ≡ to) → IfOk result (λ c. app_of c ≡ with_subcommand (with_subcommand (with_subcommand (with_subcommand to asm_form.top) dis_form.top) dot_form.top) compile_form.top) }
+    ensures { (to : App) → IfOk command.entry (λ c. app_of c ≡ to) → IfOk result (λ c. app_of c ≡ with_subcommand (with_subcommand (with_subcommand to asm_form.top) dis_form.top) dot_form.top) }
 {
     let command = with_made(command, asm_command(alloc));
     let command = with_made(command, dis_command(alloc));
-    let command = with_made(command, dot_command(alloc));
-    with_made(command, compile_command(alloc))
+    with_made(command, dot_command(alloc))
 }
 
 /// Adds a command, where both were made.
@@ -306,14 +301,6 @@ fn dis_command<'a>(alloc: Global) -> Result<Command<'a>, AllocError>
     Command::new(alloc, "dis")
         .about("Lists an image: writes it as a text to standard output")
         .arg(file_arg(alloc, "IMAGE", "The file of an image"))
-}
-
-fn compile_command<'a>(alloc: Global) -> Result<Command<'a>, AllocError>
-    ensures { IfOk result (λ c. HasForm compile_form c) }
-{
-    Command::new(alloc, "compile")
-        .about("Compiles a source: writes it as an assembly text to standard output")
-        .arg(file_arg(alloc, "SOURCE", "The file of a source"))
 }
 
 fn dot_command<'a>(alloc: Global) -> Result<Command<'a>, AllocError>
@@ -435,7 +422,6 @@ fn command_words(alloc: Global, command: &str, own: &ArgMatches) -> Result<Words
         "asm" => asm_words(alloc, own),
         "dis" => dis_words(alloc, own),
         "dot" => dot_words(alloc, own),
-        "compile" => compile_words(alloc, own),
         _ => Err(WordsFault::Text(String::new(alloc))),
     }
 }
@@ -626,14 +612,6 @@ fn dis_words(alloc: Global, own: &ArgMatches) -> Result<Words, WordsFault>
 {
     let image = word_of(alloc, own, "IMAGE")?;
     Ok(Words::Dis { image })
-}
-
-fn compile_words(alloc: Global, own: &ArgMatches) -> Result<Words, WordsFault>
-    ensures asks { IfOk result (λ asked. Asks (Some (codes "compile", rows_of (found_of own.now))) asked) }
-    ensures declines { IfErr result (λ fault. Declines true (Some (codes "compile", rows_of (found_of own.now))) fault) }
-{
-    let source = word_of(alloc, own, "SOURCE")?;
-    Ok(Words::Compile { source })
 }
 
 fn dot_words(alloc: Global, own: &ArgMatches) -> Result<Words, WordsFault>

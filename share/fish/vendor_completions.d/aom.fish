@@ -79,6 +79,4 @@ complete -c aom -n '__fish_seen_subcommand_from dot' -l text -d 'The text that t
 complete -c aom -n '__fish_seen_subcommand_from dot' -l asm -d 'Takes an assembly text in place of the image, and assembles it first'
 complete -c aom -n '__aom_at dot 0; and not __fish_contains_opt asm' -k -a '(__fish_complete_suffix .image)' -d 'The file of an image; with --asm of an assembly text'
 complete -c aom -n '__aom_at dot 0; and __fish_contains_opt asm' -k -a '(__fish_complete_suffix .aom)' -d 'The file of an image; with --asm of an assembly text'
-complete -c aom -n __fish_use_subcommand -a compile -d 'Compiles a source: writes it as an assembly text to standard output'
-complete -c aom -n '__aom_at compile 0' -k -a '(__fish_complete_suffix .ao)' -d 'The file of a source'
-complete -c aom -n '__aom_at help 0' -a 'check run explore debug asm dis dot compile'
+complete -c aom -n '__aom_at help 0' -a 'check run explore debug asm dis dot'
