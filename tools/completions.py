@@ -3,7 +3,7 @@
 import form
 
 # the ending of the files that an argument or an option's value names
-ENDINGS = {"IMAGE": "image", "SCRIPT": "script", "TEXT": "aom"}
+ENDINGS = {"IMAGE": "image", "SCRIPT": "script", "TEXT": "aom", "SOURCE": "ao"}
 MADE = "made by tools/manual"
 
 
@@ -54,6 +54,7 @@ _aom() {{
     case $ended:${{COMP_WORDS[at]}} in
       0:--) ended=1 ;;
       0:--asm) image={text} ;;
+      0:--source) image={source} ;;
       {values})
         at=$((at + 1))
         [ "${{COMP_WORDS[at]}}" = '=' ] && at=$((at + 1))
@@ -82,7 +83,7 @@ complete -F _aom aom
 def bash_argument(command, number, argument):
     if argument.many:
         return f'    {command.name}:*) _aom_words "{" ".join(form.natives())}" ;;'
-    # with --asm a text stands in the place of an image
+    # with --asm a text stands in the place of an image, with --source a source
     ending = "$image" if argument.name == "IMAGE" else ENDINGS[argument.name]
     return f"    {command.name}:{number}) _aom_files {ending} ;;"
 
@@ -103,6 +104,7 @@ def bash():
         commands=names,
         text=ENDINGS["TEXT"],
         image=ENDINGS["IMAGE"],
+        source=ENDINGS["SOURCE"],
         arguments="\n".join([line for it in commands for line in bash_command(it)] + [f'    help:0) _aom_words "{names}" ;;']),
         values=" | ".join(f"0:--{name}" for name, _ in options),
         numbers=" | ".join(f"0:--{name}" for name, it in options if it.value not in ENDINGS),
@@ -154,15 +156,20 @@ def zsh_option(option):
     return quoted(f"--{option.name}[{bracketed(option.help)}]{value}")
 
 
-def takes_text(command):
-    """Whether a text may stand in the place of a command's image."""
-    return any(it.name == "asm" for it in command.options)
+# what may stand in the place of an image, by the option that says so
+IN_PLACE = {"asm": "TEXT", "source": "SOURCE"}
+
+
+def in_place(command):
+    """The options by which another file may stand in the place of a command's image."""
+    return [it.name for it in command.options if it.name in IN_PLACE]
 
 
 def zsh_argument(command, argument):
     if argument.many:
         return quoted(f"*:{bracketed(argument.help)}:({' '.join(form.natives())})")
-    value = f"_files -g \"*.({ENDINGS['IMAGE']}|{ENDINGS['TEXT']})\"" if argument.name == "IMAGE" and takes_text(command) else zsh_value(argument.name)
+    endings = "|".join(ENDINGS[it] for it in ["IMAGE", *(IN_PLACE[name] for name in in_place(command))])
+    value = f'_files -g "*.({endings})"' if argument.name == "IMAGE" and in_place(command) else zsh_value(argument.name)
     return quoted(f":{bracketed(argument.help)}:{value}")
 
 
@@ -223,11 +230,14 @@ def fish_argument(command, number, argument):
     if argument.many:
         return f"complete -c aom -n '__aom_from {command.name} {number}' -a '{' '.join(form.natives())}' -d native"
     head = f"complete -c aom -n '__aom_at {command.name} {number}"
-    files = f"' -k -a '(__fish_complete_suffix .{ENDINGS[argument.name]})' -d {quoted(argument.help)}"
-    if argument.name != "IMAGE" or not takes_text(command):
-        return head + files
-    text = f"; and __fish_contains_opt asm' -k -a '(__fish_complete_suffix .{ENDINGS['TEXT']})' -d {quoted(argument.help)}"
-    return f"{head}; and not __fish_contains_opt asm{files}\n{head}{text}"
+    options = in_place(command) if argument.name == "IMAGE" else []
+
+    def files(kind, conditions):
+        tests = "".join(f"; and {it}" for it in conditions)
+        return f"{head}{tests}' -k -a '(__fish_complete_suffix .{ENDINGS[kind]})' -d {quoted(argument.help)}"
+
+    lines = [files(argument.name, [f"not __fish_contains_opt {it}" for it in options])]
+    return "\n".join(lines + [files(IN_PLACE[it], [f"__fish_contains_opt {it}"]) for it in options])
 
 
 def fish_command(command):

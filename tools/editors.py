@@ -41,8 +41,9 @@ let b:current_syntax = "aom"
 """
 
 VIM_FILES = """\
-" assembly texts and scripts of aom, made by tools/manual
+" assembly texts, sources and scripts of aom, made by tools/manual
 autocmd BufRead,BufNewFile *.aom setfiletype aom
+autocmd BufRead,BufNewFile *.ao setfiletype aomsource
 autocmd BufRead,BufNewFile *.script if search('\\v^\\s*%(refuse\\s+\\d|\\d+\\s+%({words})>)', 'nw') | setfiletype aomscript | endif
 """
 
@@ -185,12 +186,13 @@ def emacs():
 
 # the folder for VS Code
 
-PROBLEMS = {
-    "name": "aom",
-    "owner": "aom",
-    "fileLocation": ["autoDetect", "${workspaceFolder}"],
-    "pattern": [{"regexp": r"^(.+?):(\d+): (.+)$", "file": 1, "line": 2, "message": 3}],
-}
+PLACED = {"owner": "aom", "fileLocation": ["autoDetect", "${workspaceFolder}"]}
+PROBLEMS = [
+    {"name": "aom", **PLACED, "pattern": [{"regexp": r"^(.+?):(\d+): (.+)$", "file": 1, "line": 2, "message": 3}]},
+    {"name": "aomsource", **PLACED, "pattern": [{"regexp": r"^(.+?):(\d+):(\d+): (.+)$", "file": 1, "line": 2, "column": 3, "message": 4}]},
+]
+# the languages of the folder: an id, what it is called, the ending of its files, and where its comments and brackets stand
+LANGUAGES = (("aom", "aom", ".aom", "language-configuration"), ("aomsource", "aom source", ".ao", "source-configuration"))
 
 
 def told(content):
@@ -198,10 +200,10 @@ def told(content):
 
 
 def code_package():
-    language = {"id": "aom", "aliases": ["aom"], "extensions": [".aom"], "configuration": "./language-configuration.json"}
-    grammar = {"language": "aom", "scopeName": "source.aom", "path": "./syntaxes/aom.tmLanguage.json"}
-    contributes = {"languages": [language], "grammars": [grammar], "problemMatchers": [PROBLEMS]}
-    head = {"name": "aom", "displayName": "aom", "description": "Assembly texts of aom", "version": form.version(), "publisher": "lumetriko", "license": "MIT OR Apache-2.0"}
+    languages = [{"id": it, "aliases": [name], "extensions": [ending], "configuration": f"./{file}.json"} for it, name, ending, file in LANGUAGES]
+    grammars = [{"language": it, "scopeName": f"source.{it}", "path": f"./syntaxes/{it}.tmLanguage.json"} for it, *_ in LANGUAGES]
+    contributes = {"languages": languages, "grammars": grammars, "problemMatchers": PROBLEMS}
+    head = {"name": "aom", "displayName": "aom", "description": "Sources and assembly texts of aom", "version": form.version(), "publisher": "lumetriko", "license": "MIT OR Apache-2.0"}
     return told({**head, "engines": {"vscode": "^1.70.0"}, "categories": ["Programming Languages"], "contributes": contributes})
 
 
@@ -210,9 +212,10 @@ def code_language():
 
 
 def code_tasks():
-    """For a workspace's own folder .vscode: a build task that leads to the line of a fault."""
-    task = {"label": "aom check", "type": "shell", "command": "aom check --lines --asm ${file}", "group": "build", "problemMatcher": "$aom"}
-    return told({"version": "2.0.0", "tasks": [task]})
+    """For a workspace's own folder .vscode: build tasks that lead to the line of a fault."""
+    asked = (("aom check", "--lines --asm", "$aom"), ("aom check of a source", "--source", "$aomsource"))
+    tasks = [{"label": label, "type": "shell", "command": f"aom check {words} ${{file}}", "group": "build", "problemMatcher": to} for label, words, to in asked]
+    return told({"version": "2.0.0", "tasks": tasks})
 
 
 def pattern(name, match):

@@ -5,12 +5,13 @@ import re
 from typing import NamedTuple
 
 TOP = os.path.dirname(os.path.dirname(os.path.realpath(__file__)))
-WORDS = "crates/aom_command_line/src/words.rt"
+FORMS = "crates/aom_command_line/src/forms.rt"
 ARGS = "crates/aom_command_line/src/args.rt"
 KINDS = "crates/aom_natives/src/kind.rt"
 ROWS = "crates/aom_instructions/specs/Table.antt"
 MNEMONICS = "crates/aom_instructions/src/mnemonic.rt"
 KEYWORDS = "crates/aom_syntax/src/keyword.rt"
+SOURCE_KEYWORDS = "crates/aom_source_tokens/src/keyword.rt"
 TEXT = r'"((?:[^"\\]|\\.)*)"'
 
 
@@ -74,7 +75,7 @@ def all_found(pattern, text, what):
 
 
 def version():
-    return found(rf"const VERSION: &str = {TEXT};", read(WORDS), f"the version in {WORDS}")[0]
+    return found(rf"const VERSION: &str = {TEXT};", read(FORMS), f"the version in {FORMS}")[0]
 
 
 def functions_of(source):
@@ -96,7 +97,9 @@ def option_of(name, body):
 
 def command_of(name, functions):
     """The command that a function makes: what it adds, one after another, with the files and natives that some have in common."""
-    body = functions[f"{name}_command"].replace("with_files(alloc, command)", functions["with_files"])
+    body = functions[f"{name}_command"]
+    for shared in ("with_files", "with_program"):
+        body = body.replace(f"{shared}(alloc, command)", functions[shared])
     options, arguments = [], []
     for kind, words in re.findall(r"\b(\w+)_arg\(\s*alloc(.*?)\)", body, re.DOTALL):
         if kind == "file":
@@ -110,17 +113,17 @@ def command_of(name, functions):
 
 
 def about():
-    return found(rf'Command::new\(alloc, "aom"\)\s*\.about\({TEXT}\)', read(WORDS), "what the program does")[0]
+    return found(rf'Command::new\(alloc, "aom"\)\s*\.about\({TEXT}\)', read(FORMS), "what the program does")[0]
 
 
 def below():
     """What stands below the program's help, line by line."""
-    return found(r'const NOTES: &str = "\\\n(.*?)";', read(WORDS), f"what stands below the help in {WORDS}")[0].splitlines()
+    return found(r'const NOTES: &str = "\\\n(.*?)";', read(FORMS), f"what stands below the help in {FORMS}")[0].splitlines()
 
 
 def commands():
     """The commands, in the order in which the program has them."""
-    source = read(WORDS)
+    source = read(FORMS)
     functions = functions_of(source + read(ARGS))
     return [command_of(name, functions) for name in all_found(r"\b(\w+)_command\(alloc\)\)", source, "commands")]
 
@@ -166,6 +169,11 @@ def instructions():
     if len(rows) != count:
         raise Unreadable(f"{count} instructions, and {len(rows)} rows of the table")
     return [instruction_of(*row) for row in rows]
+
+
+def source_keywords():
+    """The keywords of sources."""
+    return all_found(r'word == b"(\w+)"', read(SOURCE_KEYWORDS), "keywords of sources")
 
 
 def keywords():

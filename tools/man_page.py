@@ -23,6 +23,7 @@ EXAMPLE = [
     ("aom run first.image empty.script", ["@0 main", "out 7", "end stopped cells 0"]),
 ]
 FILES = [
+    ("*.ao", "Sources: programs as one writes them by hand, in UTF-8, of at most 1 MiB."),
     ("*.aom", "Assembly texts: a program in ASCII, of at most 1 MiB."),
     ("*.image", "Images: the bytes that aom asm makes of a text."),
     ("*.script", "Scripts: what happens to a run from outside, line by line. An empty file is one."),

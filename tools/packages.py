@@ -93,10 +93,11 @@ def emacs_trials(place, prefix):
         print("installed: skipped: the mode for Emacs, no emacs here")
         return
     shutil.copy(FAULTY, f"{place}/lost.aom")
-    shutil.copy(f"{prefix}/share/emacs/site-lisp/aom-mode.el", f"{place}/aom-mode.el")
     strict = "(setq byte-compile-error-on-warn t)"
-    status, lines = said(["emacs", "-Q", "--batch", "--eval", strict, "-f", "batch-byte-compile", "aom-mode.el"], place)
-    yield "Emacs compiles its mode", unlike((0, []), (status, [it for it in lines if "rror" in it or "arning" in it]))
+    for name in ("aom-mode.el", "aom-source-mode.el"):
+        shutil.copy(f"{prefix}/share/emacs/site-lisp/{name}", f"{place}/{name}")
+        status, lines = said(["emacs", "-Q", "--batch", "--eval", strict, "-f", "batch-byte-compile", name], place)
+        yield f"Emacs compiles {name}", unlike((0, []), (status, [it for it in lines if "rror" in it or "arning" in it]))
     faces = "(dolist (it '(\"class\" \"newl\\\\|new\" \"r0\")) (goto-char (point-min)) (re-search-forward (concat \"^\\\\(?:\" it \"\\\\)\\\\| \" it) nil t) (princ (format \"%s\\n\" (get-text-property (1- (point)) 'face))))"
     look = f'(progn (find-file "lost.aom") (font-lock-ensure) (princ (format "%s\\n%s\\n" major-mode comment-start)) {faces})'
     _, lines = said(["emacs", "-Q", "--batch", "-l", "aom-mode.el", "--eval", look], place)

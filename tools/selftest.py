@@ -1,5 +1,5 @@
 """The test of the gate's own tools: a small repository of which one crate is false, and whose edits are known to be refused, or must not pass;
-of what is kept of its proofs and of its verdicts; and of the trial of pages."""
+of what is kept of its proofs and of its verdicts; of the reading of sources; and of the trial of pages."""
 
 import os
 import re
@@ -10,6 +10,7 @@ from freshness import PROGRAM, is_fresh, texts_sum, write_record
 from house import House
 from proving import Proofs, prove_and_try
 from quick_rt import keeps_proofs
+from selftest_reading import reading_is_well
 from selftest_shown import shown_is_well
 from showing import FALSE as FALSE_AT, LOST, OPEN
 from verdicts import Verdicts
@@ -284,4 +285,4 @@ def tools_are_well(place, jobs, say):
     is_told = {it: trial.kinds[it] for it in trial.passed} == wanted and len(trial.failed) == len(EDITS) - len(wanted)
     is_told = is_told and faults_are_well(trial, tell) and (proofs.passed, proofs.failed) == (2, 1)
     is_told = is_told and verdicts_are_well(f"{top}/edits", f"{top}/kept", wanted, tell) and freshness_is_well(f"{place}/fresh", tell)
-    return is_told and keeping_is_well(top, jobs, tell) and shown_is_well(f"{top}/shown", tell)
+    return is_told and reading_is_well(tell) and keeping_is_well(top, jobs, tell) and shown_is_well(f"{top}/shown", tell)

@@ -19,9 +19,10 @@ def natives_of(text):
     return int(named[1]) if named else 0
 
 
-def surroundings(text):
-    """The scripts beside an example, each with the kind of its natives: those of its name; or, in the first hour, those of its part. There is always the empty one."""
+def surroundings(text, source=None):
+    """The scripts beside an example, each with the kind of its natives: those of its name; or, in the first hour, those of its part. There is always the empty one.
+    A source that stands for the text can be named."""
     folder, name = os.path.split(text)
     part = re.match(r"\d+-", name)
     scripts = sorted(glob.glob(f"{folder}/{part[0]}*.script" if part else text.removesuffix("aom") + "*script"))
-    return [*((None, kind) for kind in KINDS[: 3 if natives_of(text) else 1]), *((script, KINDS[0]) for script in scripts)]
+    return [*((None, kind) for kind in KINDS[: 3 if natives_of(source or text) else 1]), *((script, KINDS[0]) for script in scripts)]

@@ -10,14 +10,15 @@ ghost use Rattle.std.specs.Prelude.{◌≡◌, ◌≤◌};
 ghost use Rattle.aom_command_line.specs.CommandLine.{KeepsLimit};
 ghost use Rattle.aom_commands.specs.Beside.{AreNew};
 
-use aom_command_line::{RunWords, TriesWords, Words, WordsFault, read_words};
-use aom_commands::{ExitStatus, Fault, Translation, translate_bytes};
+use aom_command_line::{FileKind, RunWords, TriesWords, Words, WordsFault, read_words};
+use aom_commands::{ExitStatus, Fault, Translation, assemble_bytes, translate_bytes};
 use aom_diagnostic_commands::{Program, Telling, asm, check, debug, dot, explore, run};
 use aom_fault_injection::{Part, Tries};
 use aom_host::{Input, Output, ReadError, read_file};
 use aom_natives::{Counter, Delay, Line, Native, NativeKind};
+use aom_source_commands::{compile_source, script_of_source, show_source};
 use aom_transcript::{Sink, write_text};
-use program::ProgramFiles;
+use program::{ProgramFiles, Unready, compiled};
 use std::env;
 use std::io::{self, BufWriter, Write};
 use std::process::ExitCode;
@@ -108,7 +109,11 @@ fn answer<W: Write + Drop, E: Sink>(
     let telling = telling_of(words);
     let status = match execute(rt, words, telling, &mut out, errors) {
         Ok(status) => status,
-        Err(unready) => report_read_error(rt, unready, telling, errors),
+        Err(Unready::Unread(error)) => report_read_error(rt, error, telling, errors),
+        Err(Unready::Refused(told)) => {
+            write_text(errors, &told);
+            ExitStatus::ImageRefused
+        }
     };
     if out.fails_at_end() {
         return telling.report(rt.alloc(), &Fault::Write, b"", errors);
@@ -160,19 +165,19 @@ fn execute<'a, W: Sink, E: Sink>(
     telling: Telling<'_>,
     out: &mut W,
     errors: &mut E,
-) -> Result<ExitStatus, ReadError<'a>>
+) -> Result<ExitStatus, Unready<'a>>
     requires limit { KeepsLimit words.now }
 {
     let alloc = rt.alloc();
     match words {
         Words::Check {
             image,
-            asm,
+            kind,
             prices,
             text,
             ..
         } => {
-            let files = ProgramFiles::read(rt, image, *asm, text)?;
+            let files = ProgramFiles::read(rt, image, *kind, text)?;
             Ok(check(alloc, files.program(), telling, *prices, out, errors))
         }
         Words::Run {
@@ -181,7 +186,7 @@ fn execute<'a, W: Sink, E: Sink>(
             text,
             ..
         } => {
-            let names = *names;
+            let names = *names || run.kind == FileKind::Source;
             run_beside(rt, run, text, Purpose::Run { telling, names }, out, errors)
         }
         Words::Debug { run, text } => run_beside(rt, run, text, Purpose::Debug, out, errors),
@@ -192,12 +197,32 @@ fn execute<'a, W: Sink, E: Sink>(
             let text = read_file(rt, text)?;
             Ok(asm(alloc, Program::Text(&text), telling, out, errors))
         }
-        Words::Dis { image } => {
-            let image = read_file(rt, image)?;
-            Ok(translate_bytes(alloc, Translation::Dis, &image, out, errors))
+        Words::Compile { source } => {
+            let text = read_file(rt, source)?;
+            match compile_source(alloc, source.as_bytes(), &text, out, errors) {
+                Ok(status) => Ok(status),
+                Err(fault) => Ok(telling.report(alloc, &fault, b"", errors)),
+            }
         }
-        Words::Dot { image, asm, text } => {
-            let files = ProgramFiles::read(rt, image, *asm, text)?;
+        Words::Show { source } => {
+            let text = read_file(rt, source)?;
+            match show_source(alloc, source.as_bytes(), &text, out, errors) {
+                Ok(status) => Ok(status),
+                Err(fault) => Ok(telling.report(alloc, &fault, b"", errors)),
+            }
+        }
+        Words::Dis { image, source } => {
+            let bytes = read_file(rt, image)?;
+            if !*source {
+                return Ok(translate_bytes(alloc, Translation::Dis, &bytes, out, errors));
+            }
+            match assemble_bytes(alloc, &compiled(rt, image, &bytes)?) {
+                Ok(image) => Ok(translate_bytes(alloc, Translation::Dis, &image, out, errors)),
+                Err(fault) => Ok(telling.report(alloc, &fault, b"", errors)),
+            }
+        }
+        Words::Dot { image, kind, text } => {
+            let files = ProgramFiles::read(rt, image, *kind, text)?;
             Ok(dot(alloc, files.program(), out, errors))
         }
     }
@@ -215,11 +240,28 @@ impl RunFiles {
         rt: &HostRuntime,
         run: &'a RunWords,
         text: &'a Option<String>,
-    ) -> Result<RunFiles, ReadError<'a>> {
+    ) -> Result<RunFiles, Unready<'a>> {
+        let program = ProgramFiles::read(rt, &run.image, run.kind, text)?;
         Ok(RunFiles {
-            program: ProgramFiles::read(rt, &run.image, run.asm, text)?,
-            script: read_file(rt, &run.script)?,
+            script: script_beside(rt, run.kind, &program, read_file(rt, &run.script)?)?,
+            program,
         })
+    }
+}
+
+/// The script of a run: one beside a source may have comments and names.
+fn script_beside<'a>(
+    rt: &HostRuntime,
+    kind: FileKind,
+    program: &ProgramFiles,
+    script: Vec<u8>,
+) -> Result<Vec<u8>, Unready<'a>> {
+    if kind != FileKind::Source {
+        return Ok(script);
+    }
+    match script_of_source(rt.alloc(), &program.file, &script) {
+        Ok(plain) => Ok(plain),
+        Err(_) => Err(Unready::Unread(ReadError::Memory)),
     }
 }
 
@@ -272,14 +314,14 @@ fn run_beside<'a, W: Sink, E: Sink>(
     purpose: Purpose<'_>,
     out: &mut W,
     errors: &mut E,
-) -> Result<ExitStatus, ReadError<'a>>
+) -> Result<ExitStatus, Unready<'a>>
     requires limit { (1 ≤ words.now.limit) × (words.now.limit ≤ 1000000000) }
 {
     let files = RunFiles::read(rt, words, text)?;
     let kinds = words.natives.as_slice();
     let ended = run_files(rt, purpose, words, kinds, &files, out, errors);
     drop(files);
-    ended
+    Ok(ended?)
 }
 
 /// Makes natives of the kinds that the words name, and runs a program beside them.
@@ -328,7 +370,7 @@ fn explore_beside<'a, W: Sink, E: Sink>(
     tries: Tries,
     out: &mut W,
     errors: &mut E,
-) -> Result<ExitStatus, ReadError<'a>>
+) -> Result<ExitStatus, Unready<'a>>
     requires limit { (1 ≤ words.now.limit) × (words.now.limit ≤ 1000000000) }
 {
     let files = RunFiles::read(rt, words, text)?;

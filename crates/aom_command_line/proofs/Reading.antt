@@ -1,5 +1,5 @@
 -- What `clap` answers of the words of a command line.
-use Rattle.std.proofs.Common.{◌≡◌, ◌≢◌, ◌∙◌, ℕ, ◌+◌, Bool, ◌||◌, true, false, ◌<◌, ◌^◌, ◌⊎◌, List, [], ◌∷◌, ◌++◌, Contains}
+use Rattle.std.proofs.Common.{◌≡◌, ◌≢◌, ◌∙◌, ℕ, ◌+◌, Bool, ◌||◌, not, true, false, ◌<◌, ◌^◌, ◌⊎◌, List, [], ◌∷◌, ◌++◌, Contains}
 use Rattle.std.proofs.Common.{IfErr, IfOk, IsOkAnd, length, map, take, slice_index_or, Option, Some, None, Result, Ok}
 use Rattle.std.proofs.Common.{Err, option_map, unwrap_or, codes, refl, sym, ap, ap₂, inl, inr, subst, arith}
 use Rattle.std.proofs.lemmas.Bool.{both_ways}
@@ -22,7 +22,9 @@ use Rattle.aom_command_line.specs.declared.words.WordsFault.{WordsFault}
 use Rattle.aom_command_line.specs.declared.words.WordsFault.TheVariants as faults
 use Rattle.aom_natives.specs.Kinds.{word_of as word_of_kind}
 use Rattle.aom_natives.specs.declared.kind.NativeKind.{NativeKind}
-use Rattle.aom_command_line.specs.CommandLine.{IsCommand, HasNoUseForText, Declines, AsksLines, AsksNames, AsksText, DeclinesLines, DeclinesTextless}
+use Rattle.aom_command_line.specs.declared.words.FileKind.{FileKind}
+use Rattle.aom_command_line.specs.declared.words.FileKind.TheVariants.{Image, Assembly, Source}
+use Rattle.aom_command_line.specs.CommandLine.{is_assembly, is_image, IsCommand, HasNoUseForText, Declines, AsksKind, AsksLines, AsksNames, AsksText, DeclinesLines, DeclinesTextless}
 use Rattle.aom_command_line.specs.CommandLine.{HasForm, IsFlag, NamesTwoTexts, NamesKinds, NamesNoKinds, Says, form, texts_in, word_of}
 
 same : {E : Type 0} (v n : ℕ) (r : Result ℕ E) → r ≡ Ok v → r ≡ Ok n → Some v ≡ Some n
@@ -69,19 +71,7 @@ pub simple : is_simple form ≡ true
 unfolding clap_on_literals
 simple = refl
 
--- ---- a text beside an image
-
--- a text that is there
-pub is_named : (rows : List Row) (name : Text) → Some name ≡ first_of (codes "text") rows → first_of (codes "text") rows ≢ None
-is_named rows name there = grind arith
-
--- a text that is there, beside a flag that is set
-pub names_two : (rows : List Row) (name : Text) (asm : Bool) →
-    Some name ≡ first_of (codes "text") rows → (one_of (codes "asm") rows ≡ Some (codes "false") → asm ≡ false) → asm ≡ true → NamesTwoTexts rows
-names_two rows name asm there unused set = grind arith
-
-pub no_text : {A : Type 0} (rows : List Row) (explain asm : Bool) → None ≡ first_of (codes "text") rows → AsksText {A = A} rows explain asm None
-no_text rows explain asm none = record { named = none; useful = λ some. absurd (some (sym none)); alone = λ some. absurd (some (sym none)) }
+-- ---- flags
 
 -- a flag that is not set is not asked for
 pub unset : (rows : List Row) (id : Text) (flag : Bool) → IsFlag (one_of id rows) flag → flag ≡ false → one_of id rows ≢ Some (codes "true")
@@ -90,16 +80,48 @@ unset rows id flag is none asked = both_ways flag none (is.used asked)
 pub set : (rows : List Row) (id : Text) (flag : Bool) → IsFlag (one_of id rows) flag → flag ≡ true → one_of id rows ≢ Some (codes "false")
 set rows id flag is some asked = both_ways flag (is.unused asked) some
 
+unset_by : (flag : Bool) → not flag ≡ true → flag ≡ false
+unset_by true e = sym e
+unset_by false e = refl
+
+pub set_by : (flag : Bool) → not flag ≡ false → flag ≡ true
+set_by true e = refl
+set_by false e = sym e
+
+-- a file that is an image is no assembly text
+pub image_unassembled : (kind : FileKind) → is_image kind ≡ true → is_assembly kind ≡ false
+image_unassembled Image is = refl
+image_unassembled Assembly is = sym is
+image_unassembled Source is = refl
+
+-- ---- a text beside an image
+
+-- a text that is there
+pub is_named : (rows : List Row) (name : Text) → Some name ≡ first_of (codes "text") rows → first_of (codes "text") rows ≢ None
+is_named rows name there = grind arith
+
+-- a text that is there, beside a flag that is set
+pub names_two : (rows : List Row) (name : Text) (kind : FileKind) →
+    Some name ≡ first_of (codes "text") rows → AsksKind rows kind → is_image kind ≡ false → NamesTwoTexts rows
+names_two rows name Image there is other = absurd (both_ways true other refl)
+names_two rows name Assembly there is other = record { named = is_named rows name there; other = inl (set rows (codes "asm") true is.assembly refl) }
+names_two rows name Source there is other = record { named = is_named rows name there; other = inr (set rows (codes "source") true is.source refl) }
+
+pub no_text : {A : Type 0} (rows : List Row) (explain : Bool) (kind : FileKind) → None ≡ first_of (codes "text") rows → AsksText {A = A} rows explain kind None
+no_text rows explain kind none = record { named = none; useful = λ some. absurd (some (sym none)); alone = λ some. absurd (some (sym none)) }
+
 -- lines that nobody asks for, and those of a text
-pub unlined : (rows : List Row) (explain asm lines : Bool) → IsFlag (one_of (codes "lines") rows) lines → lines ≡ false → AsksLines rows explain asm lines
-unlined rows explain asm lines is none =
+pub unlined : (rows : List Row) (explain : Bool) (kind : FileKind) (lines : Bool) → IsFlag (one_of (codes "lines") rows) lines → lines ≡ false → AsksLines rows explain kind lines
+unlined rows explain kind lines is none =
     record { set = is; textual = λ some. absurd (both_ways lines none some); alone = λ some. absurd (both_ways lines none some) }
 
--- lines that are asked for where there is a text, and nothing is explained
-pub lines_textual : {A E : Type 0} (rows : List Row) (explain asm lines : Bool) (fits : Result A E) → IsFlag (one_of (codes "lines") rows) lines →
-    explain ≡ false → IfOk fits (λ _. (asm ≡ true) ⊎ (first_of (codes "text") rows ≢ None)) → IfOk fits (λ _. AsksLines rows explain asm lines)
-lines_textual rows explain asm lines (Ok unit) is alone textual = record { set = is; textual = λ some. textual; alone = λ some. alone }
-lines_textual rows explain asm lines (Err e) is alone textual = tt
+-- lines that are asked for where there is an assembly text, and nothing is explained
+pub lines_textual : {A E : Type 0} (rows : List Row) (explain : Bool) (kind : FileKind) (lines flag : Bool) (fits : Result A E) → flag ≡ is_assembly kind →
+    IsFlag (one_of (codes "lines") rows) lines → explain ≡ false → IfOk fits (λ _. (flag ≡ true) ⊎ (first_of (codes "text") rows ≢ None)) →
+    IfOk fits (λ _. AsksLines rows explain kind lines)
+lines_textual rows explain kind lines flag (Ok unit) same is alone (inl set) = record { set = is; textual = λ some. inl (sym same ∙ set); alone = λ some. alone }
+lines_textual rows explain kind lines flag (Ok unit) same is alone (inr named) = record { set = is; textual = λ some. inr named; alone = λ some. alone }
+lines_textual rows explain kind lines flag (Err e) same is alone textual = tt
 
 pub lines_lack : {A : Type 0} (rows : List Row) (fits : Result A WordsFault) → IfErr fits (λ fault. DeclinesTextless (codes "lines") rows fault) →
     IfErr fits (λ fault. DeclinesLines rows fault)
@@ -108,15 +130,16 @@ lines_lack rows (Err (faults.Text text)) lacks = inr lacks
 lines_lack rows (Err faults.Native) lacks = lacks
 lines_lack rows (Err faults.Memory) lacks = lacks
 
--- names that are asked for where there is a text
-pub names_textual : {A E : Type 0} (rows : List Row) (asm names : Bool) (fits : Result A E) → IsFlag (one_of (codes "names") rows) names
-    → IfOk fits (λ _. (asm ≡ true) ⊎ (first_of (codes "text") rows ≢ None)) → IfOk fits (λ _. AsksNames rows asm names)
-names_textual rows asm names (Ok unit) is textual = record { set = is; textual = λ some. textual }
-names_textual rows asm names (Err e) is textual = tt
+-- names that are asked for where the file is no image, or there is a text
+pub names_textual : {A E : Type 0} (rows : List Row) (kind : FileKind) (names flag : Bool) (fits : Result A E) → flag ≡ is_image kind
+    → IsFlag (one_of (codes "names") rows) names → IfOk fits (λ _. (not flag ≡ true) ⊎ (first_of (codes "text") rows ≢ None)) → IfOk fits (λ _. AsksNames rows kind names)
+names_textual rows kind names flag (Ok unit) same is (inl set) = record { set = is; textual = λ some. inl (sym same ∙ unset_by flag set) }
+names_textual rows kind names flag (Ok unit) same is (inr named) = record { set = is; textual = λ some. inr named }
+names_textual rows kind names flag (Err e) same is textual = tt
 
 -- names that nobody asks for
-pub unnamed : (rows : List Row) (asm names : Bool) → IsFlag (one_of (codes "names") rows) names → names ≡ false → AsksNames rows asm names
-unnamed rows asm names is none = record { set = is; textual = λ some. absurd (both_ways names none some) }
+pub unnamed : (rows : List Row) (kind : FileKind) (names : Bool) → IsFlag (one_of (codes "names") rows) names → names ≡ false → AsksNames rows kind names
+unnamed rows kind names is none = record { set = is; textual = λ some. absurd (both_ways names none some) }
 
 -- what `clap` takes, and what it does not
 pub declines : (taken : Bool) (met : Option (Text × List Row)) (fault : WordsFault) → Declines true met fault → Declines taken met fault

@@ -15,10 +15,12 @@ use Rattle.clap.specs.declared.error.kind.ErrorKind.{ErrorKind}
 use Rattle.clap.specs.declared.error.kind.ErrorKind.TheVariants.{OutOfMemory}
 use Rattle.aom_natives.specs.Kinds.{word_of as word_of_kind}
 use Rattle.aom_natives.specs.declared.kind.NativeKind.{NativeKind}
+use Rattle.aom_command_line.specs.declared.words.FileKind.{FileKind}
+use Rattle.aom_command_line.specs.declared.words.FileKind.TheVariants.{Image, Assembly, Source}
 use Rattle.aom_command_line.specs.declared.words.RunWords.{RunWords}
 use Rattle.aom_command_line.specs.declared.words.TriesWords.{TriesWords}
 use Rattle.aom_command_line.specs.declared.words.Words.{Words}
-use Rattle.aom_command_line.specs.declared.words.Words.TheVariants.{Check, Run, Explore, Debug, Asm, Dis, Dot}
+use Rattle.aom_command_line.specs.declared.words.Words.TheVariants.{Check, Run, Explore, Debug, Asm, Dis, Compile, Show, Dot}
 use Rattle.aom_command_line.specs.declared.words.WordsFault.{WordsFault}
 use Rattle.aom_command_line.specs.declared.words.WordsFault.TheVariants as faults
 
@@ -97,6 +99,10 @@ names_rule = flag_rule (codes "names")
 abbrev pub asm_rule : Rule
 asm_rule = flag_rule (codes "asm")
 
+-- `--source`
+abbrev pub source_rule : Rule
+source_rule = flag_rule (codes "source")
+
 -- `--text TEXT`, the name of a file
 abbrev pub text_rule : Rule
 text_rule =
@@ -113,37 +119,48 @@ native_rule =
       range = Some (record { start_inclusive = 0; end_inclusive = usize_max });
     }
 
--- check [--prices] [--explain] [--lines] [--text TEXT] [--asm] IMAGE
+-- [--asm] [--source] IMAGE, the words of each command about a program
+abbrev pub with_program : App → App
+with_program command = with_rule (with_rule (with_rule command asm_rule) source_rule) (file_rule (codes "IMAGE"))
+
+-- check [--prices] [--explain] [--lines] [--text TEXT] [--asm] [--source] IMAGE
 abbrev pub check_form : App
-check_form =
-    with_rule (with_rule (with_rule (with_rule (with_rule (with_rule (new_app (codes "check")) prices_rule) explain_rule) lines_rule) text_rule) asm_rule) (file_rule (codes "IMAGE"))
+check_form = with_program (with_rule (with_rule (with_rule (with_rule (new_app (codes "check")) prices_rule) explain_rule) lines_rule) text_rule)
 
 -- asm [--explain] TEXT
 abbrev pub asm_form : App
 asm_form = with_rule (with_rule (new_app (codes "asm")) explain_rule) (file_rule (codes "TEXT"))
 
--- dis IMAGE
+-- dis [--source] IMAGE
 abbrev pub dis_form : App
-dis_form = with_rule (new_app (codes "dis")) (file_rule (codes "IMAGE"))
+dis_form = with_rule (with_rule (new_app (codes "dis")) source_rule) (file_rule (codes "IMAGE"))
 
--- dot [--text TEXT] [--asm] IMAGE
+-- compile SOURCE
+abbrev pub compile_form : App
+compile_form = with_rule (new_app (codes "compile")) (file_rule (codes "SOURCE"))
+
+-- show SOURCE
+abbrev pub show_form : App
+show_form = with_rule (new_app (codes "show")) (file_rule (codes "SOURCE"))
+
+-- dot [--text TEXT] [--asm] [--source] IMAGE
 abbrev pub dot_form : App
-dot_form = with_rule (with_rule (with_rule (new_app (codes "dot")) text_rule) asm_rule) (file_rule (codes "IMAGE"))
+dot_form = with_program (with_rule (new_app (codes "dot")) text_rule)
 
--- [--asm] IMAGE SCRIPT [NATIVE].., the last words of each command that runs an image
+-- [--asm] [--source] IMAGE SCRIPT [NATIVE].., the last words of each command that runs an image
 abbrev pub with_files : App → App
-with_files command = with_rule (with_rule (with_rule (with_rule command asm_rule) (file_rule (codes "IMAGE"))) (file_rule (codes "SCRIPT"))) native_rule
+with_files command = with_rule (with_rule (with_program command) (file_rule (codes "SCRIPT"))) native_rule
 
--- run [--limit N] [--explain] [--names] [--text TEXT] [--asm] IMAGE SCRIPT [NATIVE]..
+-- run [--limit N] [--explain] [--names] [--text TEXT] [--asm] [--source] IMAGE SCRIPT [NATIVE]..
 abbrev pub run_form : App
 run_form = with_files (with_rule (with_rule (with_rule (with_rule (new_app (codes "run")) limit_rule) explain_rule) names_rule) text_rule)
 
--- explore [--limit N] [--from N] [--to N] [--kills] [--deaths] [--pairs] [--tries N] [--text TEXT] [--asm] IMAGE SCRIPT [NATIVE]..
+-- explore [--limit N] [--from N] [--to N] [--kills] [--deaths] [--pairs] [--tries N] [--text TEXT] [--asm] [--source] IMAGE SCRIPT [NATIVE]..
 abbrev pub explore_form : App
 explore_form =
     with_files (with_rule (with_rule (with_rule (with_rule (with_rule (with_rule (with_rule (with_rule (new_app (codes "explore")) limit_rule) from_rule) to_rule) kills_rule) deaths_rule) pairs_rule) tries_rule) text_rule)
 
--- debug [--limit N] [--text TEXT] [--asm] IMAGE SCRIPT [NATIVE]..
+-- debug [--limit N] [--text TEXT] [--asm] [--source] IMAGE SCRIPT [NATIVE]..
 abbrev pub debug_form : App
 debug_form = with_files (with_rule (with_rule (new_app (codes "debug")) limit_rule) text_rule)
 
@@ -152,7 +169,9 @@ abbrev pub bare_form : App
 bare_form = record { top = record (new_app (codes "aom")).top { has_version = true; subcommand_required = true }; subs = [] }
 
 abbrev pub form : App
-form = with_subcommand (with_subcommand (with_subcommand (with_subcommand (with_subcommand (with_subcommand (with_subcommand bare_form check_form.top) run_form.top) explore_form.top) debug_form.top) asm_form.top) dis_form.top) dot_form.top
+form =
+    with_subcommand (with_subcommand (with_subcommand (with_subcommand (with_subcommand (with_subcommand (with_subcommand (with_subcommand (with_subcommand bare_form check_form.top) run_form.top) explore_form.top) debug_form.top)
+    asm_form.top) dis_form.top) dot_form.top) compile_form.top) show_form.top
 
 -- the texts of words
 abbrev pub texts_of : {A : Type 0} → List (String A) → List Text
@@ -199,30 +218,50 @@ DeclinesNatives words (faults.Text text) = ⊥
 DeclinesNatives words faults.Native = NamesNoKinds words
 DeclinesNatives words faults.Memory = Unit {0}
 
+-- the file is an assembly text
+abbrev pub is_assembly : FileKind → Bool
+is_assembly Assembly = true
+is_assembly _ = false
+
+-- the file is an image
+abbrev pub is_image : FileKind → Bool
+is_image Image = true
+is_image _ = false
+
+-- the file is a source
+abbrev pub is_source : FileKind → Bool
+is_source Source = true
+is_source _ = false
+
+-- the words found for a command say so of its file, which is an image where they say nothing
+pub record AsksKind (rows : List Row) (kind : FileKind) : Type 0 where
+  pub assembly : IsFlag (one_of (codes "asm") rows) (is_assembly kind)
+  pub source : IsFlag (one_of (codes "source") rows) (is_source kind)
+
 -- the words found for a command that runs an image ask this
 pub record AsksRun (rows : List Row) (run : RunWords) : Type 0 where
   pub image : string_bytes run.image ≡ word_of (codes "IMAGE") rows
   pub script : string_bytes run.script ≡ word_of (codes "SCRIPT") rows
-  pub asm : IsFlag (one_of (codes "asm") rows) run.asm
+  pub kind : AsksKind rows run.kind
   pub limit : IsNumberUpTo 1000000000 (one_of (codes "limit") rows) run.limit
   pub natives : NamesKinds (all_of (codes "NATIVE") rows) run.natives.items
 
--- the words found for a command name this text beside its image, and none where it is of no use or the image is itself a text
-pub record AsksText {A : Type 0} (rows : List Row) (used asm : Bool) (text : Option (String A)) : Type 0 where
+-- the words found for a command name this text beside its image, and none where it is of no use or the file is no image
+pub record AsksText {A : Type 0} (rows : List Row) (used : Bool) (kind : FileKind) (text : Option (String A)) : Type 0 where
   pub named : option_map (λ t. string_bytes t) text ≡ first_of (codes "text") rows
   pub useful : first_of (codes "text") rows ≢ None → used ≡ true
-  pub alone : first_of (codes "text") rows ≢ None → asm ≡ false
+  pub alone : first_of (codes "text") rows ≢ None → is_image kind ≡ true
 
--- where the words found for a command ask for lines, there is a text, and nothing is to be explained
-pub record AsksLines (rows : List Row) (explain asm lines : Bool) : Type 0 where
+-- where the words found for a command ask for lines, there is an assembly text, and nothing is to be explained
+pub record AsksLines (rows : List Row) (explain : Bool) (kind : FileKind) (lines : Bool) : Type 0 where
   pub set : IsFlag (one_of (codes "lines") rows) lines
-  pub textual : lines ≡ true → (asm ≡ true) ⊎ (first_of (codes "text") rows ≢ None)
+  pub textual : lines ≡ true → (is_assembly kind ≡ true) ⊎ (first_of (codes "text") rows ≢ None)
   pub alone : lines ≡ true → explain ≡ false
 
--- where the words found for a command ask for names, there is a text
-pub record AsksNames (rows : List Row) (asm names : Bool) : Type 0 where
+-- where the words found for a command ask for names, there is a text or a source
+pub record AsksNames (rows : List Row) (kind : FileKind) (names : Bool) : Type 0 where
   pub set : IsFlag (one_of (codes "names") rows) names
-  pub textual : names ≡ true → (asm ≡ true) ⊎ (first_of (codes "text") rows ≢ None)
+  pub textual : names ≡ true → (is_image kind ≡ false) ⊎ (first_of (codes "text") rows ≢ None)
 
 -- none of these flags is set
 abbrev pub AllUnset : List Text → List Row → Type 0
@@ -234,10 +273,15 @@ pub record LacksUse (uses : List Text) (rows : List Row) : Type 0 where
   pub named : first_of (codes "text") rows ≢ None
   pub unasked : AllUnset uses rows
 
--- the words found for a command name a text beside one that is to be assembled
+-- the words found for a command name a text beside one that is to be assembled, or beside a source
 pub record NamesTwoTexts (rows : List Row) : Type 0 where
   pub named : first_of (codes "text") rows ≢ None
-  pub assembled : one_of (codes "asm") rows ≢ Some (codes "false")
+  pub other : (one_of (codes "asm") rows ≢ Some (codes "false")) ⊎ (one_of (codes "source") rows ≢ Some (codes "false"))
+
+-- the words found for a command say of its file that it is an assembly text and that it is a source
+pub record SaysTwoKinds (rows : List Row) : Type 0 where
+  pub assembly : one_of (codes "asm") rows ≢ Some (codes "false")
+  pub source : one_of (codes "source") rows ≢ Some (codes "false")
 
 -- the words found for a command ask for what only a text can give, and name none
 pub record LacksText (id : Text) (rows : List Row) : Type 0 where
@@ -255,6 +299,12 @@ abbrev pub DeclinesText : List Row → (used : Bool) → WordsFault → Type 0
 DeclinesText rows used (faults.Text text) = ((first_of (codes "text") rows ≢ None) × (used ≡ false)) ⊎ NamesTwoTexts rows
 DeclinesText rows used faults.Native = ⊥
 DeclinesText rows used faults.Memory = Unit {0}
+
+-- why the kind of a file is refused
+abbrev pub DeclinesKind : List Row → WordsFault → Type 0
+DeclinesKind rows (faults.Text text) = SaysTwoKinds rows
+DeclinesKind rows faults.Native = ⊥
+DeclinesKind rows faults.Memory = Unit {0}
 
 -- why lines are refused
 abbrev pub DeclinesLines : List Row → WordsFault → Type 0
@@ -280,36 +330,41 @@ DeclinesTextless id rows faults.Memory = Unit {0}
 -- a command and the words found for it ask this
 abbrev pub Asks : Option (Text × List Row) → Words → Type 0
 Asks None words = ⊥
-Asks (Some met) (Check image asm prices explain lines text) =
-    (met.0 ≡ codes "check") × (string_bytes image ≡ word_of (codes "IMAGE") met.1) × IsFlag (one_of (codes "asm") met.1) asm
+Asks (Some met) (Check image kind prices explain lines text) =
+    (met.0 ≡ codes "check") × (string_bytes image ≡ word_of (codes "IMAGE") met.1) × AsksKind met.1 kind
     × IsFlag (one_of (codes "prices") met.1) prices × IsFlag (one_of (codes "explain") met.1) explain
-    × AsksLines met.1 explain asm lines × AsksText met.1 ((explain || lines) || prices) asm text
+    × AsksLines met.1 explain kind lines × AsksText met.1 ((explain || lines) || prices) kind text
 Asks (Some met) (Run run explain names text) =
     (met.0 ≡ codes "run") × AsksRun met.1 run × IsFlag (one_of (codes "explain") met.1) explain
-    × AsksNames met.1 run.asm names × AsksText met.1 (explain || names) run.asm text
-Asks (Some met) (Explore run tries text) = (met.0 ≡ codes "explore") × AsksRun met.1 run × AsksTries met.1 tries × AsksText met.1 true run.asm text
-Asks (Some met) (Debug run text) = (met.0 ≡ codes "debug") × AsksRun met.1 run × AsksText met.1 true run.asm text
+    × AsksNames met.1 run.kind names × AsksText met.1 (explain || names) run.kind text
+Asks (Some met) (Explore run tries text) = (met.0 ≡ codes "explore") × AsksRun met.1 run × AsksTries met.1 tries × AsksText met.1 true run.kind text
+Asks (Some met) (Debug run text) = (met.0 ≡ codes "debug") × AsksRun met.1 run × AsksText met.1 true run.kind text
 Asks (Some met) (Asm text explain) = (met.0 ≡ codes "asm") × (string_bytes text ≡ word_of (codes "TEXT") met.1) × IsFlag (one_of (codes "explain") met.1) explain
-Asks (Some met) (Dis image) = (met.0 ≡ codes "dis") × (string_bytes image ≡ word_of (codes "IMAGE") met.1)
-Asks (Some met) (Dot image asm text) = (met.0 ≡ codes "dot") × (string_bytes image ≡ word_of (codes "IMAGE") met.1) × IsFlag (one_of (codes "asm") met.1) asm × AsksText met.1 true asm text
+Asks (Some met) (Dis image source) = (met.0 ≡ codes "dis") × (string_bytes image ≡ word_of (codes "IMAGE") met.1) × IsFlag (one_of (codes "source") met.1) source
+Asks (Some met) (Compile source) = (met.0 ≡ codes "compile") × (string_bytes source ≡ word_of (codes "SOURCE") met.1)
+Asks (Some met) (Show source) = (met.0 ≡ codes "show") × (string_bytes source ≡ word_of (codes "SOURCE") met.1)
+Asks (Some met) (Dot image kind text) = (met.0 ≡ codes "dot") × (string_bytes image ≡ word_of (codes "IMAGE") met.1) × AsksKind met.1 kind × AsksText met.1 true kind text
 
 -- it is one of the program's commands
 abbrev pub IsCommand : Option (Text × List Row) → Type 0
 IsCommand None = ⊥
-IsCommand (Some met) = (met.0 ≡ codes "check") ⊎ (met.0 ≡ codes "run") ⊎ (met.0 ≡ codes "explore") ⊎ (met.0 ≡ codes "debug") ⊎ (met.0 ≡ codes "asm") ⊎ (met.0 ≡ codes "dis") ⊎ (met.0 ≡ codes "dot")
+IsCommand (Some met) =
+    (met.0 ≡ codes "check") ⊎ (met.0 ≡ codes "run") ⊎ (met.0 ≡ codes "explore") ⊎ (met.0 ≡ codes "debug") ⊎ (met.0 ≡ codes "asm") ⊎ (met.0 ≡ codes "dis") ⊎ (met.0 ≡ codes "dot")
+    ⊎ (met.0 ≡ codes "compile") ⊎ (met.0 ≡ codes "show")
 
 -- it is a command that runs an image, with a word of no native or one word too many
 abbrev pub NamesNoNatives : Option (Text × List Row) → Type 0
 NamesNoNatives None = ⊥
 NamesNoNatives (Some met) = ((met.0 ≡ codes "run") ⊎ (met.0 ≡ codes "explore") ⊎ (met.0 ≡ codes "debug")) × NamesNoKinds (all_of (codes "NATIVE") met.1)
 
--- it is a command that tells by a text, with words that do not fit together: a text that is of no use, two texts, lines or names of no text, or lines beside an explanation
+-- it is a command about a program, with words that do not fit together: two kinds of its file, a text that is of no use, two texts, lines or names of no text,
+-- or lines beside an explanation
 abbrev pub HasNoUseForText : Option (Text × List Row) → Type 0
 HasNoUseForText None = ⊥
 HasNoUseForText (Some met) =
-    ((met.0 ≡ codes "check") × (LacksUse (codes "explain" ∷ codes "lines" ∷ codes "prices" ∷ []) met.1 ⊎ NamesTwoTexts met.1 ⊎ LacksText (codes "lines") met.1 ⊎ AsksTwoReportings met.1))
-    ⊎ ((met.0 ≡ codes "run") × (LacksUse (codes "explain" ∷ codes "names" ∷ []) met.1 ⊎ NamesTwoTexts met.1 ⊎ LacksText (codes "names") met.1))
-    ⊎ (((met.0 ≡ codes "explore") ⊎ (met.0 ≡ codes "debug") ⊎ (met.0 ≡ codes "dot")) × NamesTwoTexts met.1)
+    ((met.0 ≡ codes "check") × (SaysTwoKinds met.1 ⊎ LacksUse (codes "explain" ∷ codes "lines" ∷ codes "prices" ∷ []) met.1 ⊎ NamesTwoTexts met.1 ⊎ LacksText (codes "lines") met.1 ⊎ AsksTwoReportings met.1))
+    ⊎ ((met.0 ≡ codes "run") × (SaysTwoKinds met.1 ⊎ LacksUse (codes "explain" ∷ codes "names" ∷ []) met.1 ⊎ NamesTwoTexts met.1 ⊎ LacksText (codes "names") met.1))
+    ⊎ (((met.0 ≡ codes "explore") ⊎ (met.0 ≡ codes "debug") ⊎ (met.0 ≡ codes "dot")) × (SaysTwoKinds met.1 ⊎ NamesTwoTexts met.1))
 
 -- why words ask nothing: `clap` does not take them, or they do not fit together, or they do not name natives where they should, or memory is wanting
 abbrev pub Declines : Bool → Option (Text × List Row) → WordsFault → Type 0
@@ -329,10 +384,12 @@ Says kind faults.Memory = Unit {0}
 
 -- what is known of the limit of runs
 abbrev pub KeepsLimit : Words → Type 0
-KeepsLimit (Check image asm prices explain lines text) = Unit {0}
+KeepsLimit (Check image kind prices explain lines text) = Unit {0}
 KeepsLimit (Run run explain names text) = (1 ≤ run.limit) × (run.limit ≤ 1000000000)
 KeepsLimit (Explore run tries text) = (1 ≤ run.limit) × (run.limit ≤ 1000000000)
 KeepsLimit (Debug run text) = (1 ≤ run.limit) × (run.limit ≤ 1000000000)
 KeepsLimit (Asm text explain) = Unit {0}
-KeepsLimit (Dis image) = Unit {0}
-KeepsLimit (Dot image asm text) = Unit {0}
+KeepsLimit (Dis image source) = Unit {0}
+KeepsLimit (Compile source) = Unit {0}
+KeepsLimit (Show source) = Unit {0}
+KeepsLimit (Dot image kind text) = Unit {0}

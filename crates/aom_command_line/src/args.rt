@@ -1,7 +1,7 @@
 //! The arguments of commands.
 ghost use Rattle.std.specs.Prelude.{◌≡◌, false};
 ghost use Rattle.clap.specs.Words.{rule_of};
-ghost use Rattle.aom_command_line.specs.CommandLine.{asm_rule, deaths_rule, explain_rule, file_rule, flag_rule, from_rule, kills_rule, limit_rule, lines_rule, names_rule, native_rule, number_rule, pairs_rule, prices_rule, text_rule, to_rule, tries_rule};
+ghost use Rattle.aom_command_line.specs.CommandLine.{asm_rule, deaths_rule, explain_rule, file_rule, flag_rule, from_rule, kills_rule, limit_rule, lines_rule, names_rule, native_rule, number_rule, pairs_rule, prices_rule, source_rule, text_rule, to_rule, tries_rule};
 
 use clap::builder::ValueParser;
 use clap::{Arg, ArgAction, value_parser};
@@ -136,7 +136,7 @@ pub fn names_arg<'a>(alloc: Global) -> Arg<'a>
     flag_arg(
         alloc,
         "names",
-        "Writes the names of classes in place of their numbers; needs --asm or --text",
+        "Writes the names of classes in place of their numbers; needs --asm, --source or --text",
     )
 }
 
@@ -148,6 +148,17 @@ pub fn asm_arg<'a>(alloc: Global) -> Arg<'a>
         alloc,
         "asm",
         "Takes an assembly text in place of the image, and assembles it first",
+    )
+}
+
+pub fn source_arg<'a>(alloc: Global) -> Arg<'a>
+    ensures rule { rule_of result ≡ source_rule }
+    ensures own { result.global ≡ false }
+{
+    flag_arg(
+        alloc,
+        "source",
+        "Takes a source in place of the image, and compiles it first",
     )
 }
 

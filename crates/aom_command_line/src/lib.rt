@@ -6,6 +6,7 @@
 #![tactic(auto)]
 
 mod args;
+mod forms;
 mod words;
 
-pub use words::{RunWords, TriesWords, Words, WordsFault, read_words};
+pub use words::{FileKind, RunWords, TriesWords, Words, WordsFault, read_words};

@@ -1,26 +1,45 @@
 //! The command line.
-ghost use Rattle.std.specs.Prelude.{◌≡◌, ◌≢◌, ◌≤◌, ◌⊎◌, IfOk, IfErr, IsOkAnd, None, Some, false, true, codes, length};
+ghost use Rattle.std.specs.Prelude.{◌≡◌, ◌≢◌, ◌≤◌, ◌⊎◌, IfOk, IfErr, None, Some, false, true, codes, length};
 ghost use Rattle.std.specs.String.{string_bytes};
-ghost use Rattle.clap.specs.Words.{AddsArg, AddsSubcommand, App, all_of, app_of, first_of, found_of, kind_of, one_of, rows_of, subcommand_of, subcommand_rows_of, takes, with_subcommand};
-ghost use Rattle.aom_command_line.specs.CommandLine.{asm_form, check_form, debug_form, dis_form, dot_form, explore_form, run_form, form, texts_of, with_files, word_of, Asks, AsksLines, AsksNames, AsksRun, AsksText, AsksTries, Declines, DeclinesLines, DeclinesNatives, DeclinesRun, DeclinesText, DeclinesTextless, HasForm, IsFlag, IsNumberUpTo, KeepsLimit, NamesKinds, Says, texts_in};
+ghost use Rattle.clap.specs.Words.{all_of, first_of, found_of, kind_of, one_of, rows_of, subcommand_of, subcommand_rows_of, takes};
+ghost use Rattle.aom_command_line.specs.CommandLine.{form, texts_of, word_of, Asks, AsksKind, AsksLines, AsksNames, AsksRun, AsksText, AsksTries, Declines, DeclinesKind, DeclinesLines, DeclinesNatives, DeclinesRun, DeclinesText, DeclinesTextless, IsFlag, IsNumberUpTo, KeepsLimit, NamesKinds, Says, is_assembly, is_image, texts_in};
 
-use crate::args::{
-    asm_arg, deaths_arg, explain_arg, file_arg, from_arg, kills_arg, limit_arg, lines_arg,
-    names_arg, native_arg, pairs_arg, prices_arg, text_arg, to_arg, tries_arg,
-};
+use crate::forms::aom_command;
 use aom_natives::NativeKind;
 use clap::error::ErrorKind;
-use clap::{Arg, ArgMatches, Command, Error};
+use clap::{ArgMatches, Error};
 use std::alloc::{AllocError, AllocFailed, Global};
 use thiserror::Error as FaultText;
+
+/// What the file of a program is.
+#[derive(Clone, Copy, PartialEq, Eq, Debug)]
+pub enum FileKind {
+    Image,
+    /// An assembly text.
+    Assembly,
+    Source,
+}
+
+impl FileKind {
+    fn is_assembly(self) -> bool
+        ensures { result ≡ is_assembly self }
+    {
+        matches!(self, FileKind::Assembly)
+    }
+
+    fn is_image(self) -> bool
+        ensures { result ≡ is_image self }
+    {
+        matches!(self, FileKind::Image)
+    }
+}
 
 /// What is asked, with the names of files.
 #[derive(Drop)]
 pub enum Words {
     Check {
         image: String,
-        /// Whether the file is an assembly text, and not an image.
-        asm: bool,
+        kind: FileKind,
         /// Whether what the methods come to and cost is asked for.
         prices: bool,
         /// Whether a fault is to be explained.
@@ -59,11 +78,20 @@ pub enum Words {
     },
     Dis {
         image: String,
+        /// Whether the file is a source, and not an image.
+        source: bool,
+    },
+    /// A source is to be compiled to an assembly text.
+    Compile {
+        source: String,
+    },
+    /// A source is to be shown with what was added to it.
+    Show {
+        source: String,
     },
     Dot {
         image: String,
-        /// Whether the file is an assembly text, and not an image.
-        asm: bool,
+        kind: FileKind,
         /// The text that the image is of, whose names are told.
         text: Option<String>,
     },
@@ -72,7 +100,7 @@ pub enum Words {
 /// Why a command line is refused.
 #[derive(Debug, Drop, FaultText)]
 pub enum WordsFault {
-    /// What `clap` has to say, a fault, or the help or the version that was asked for; or that `--text`, `--asm`, `--explain`, `--lines` and `--names` do not fit together.
+    /// What `clap` has to say, a fault, or the help or the version that was asked for; or that `--text`, `--asm`, `--source`, `--explain`, `--lines` and `--names` do not fit together.
     #[error("{0}")]
     Text(String),
     /// No native of that name, or one too many.
@@ -106,8 +134,7 @@ impl<T: Drop> From<AllocFailed<T>> for WordsFault {
 #[derive(Drop)]
 pub struct RunWords {
     pub image: String,
-    /// Whether that file is an assembly text, and not an image.
-    pub asm: bool,
+    pub kind: FileKind,
     pub script: String,
     /// The most dispatches after main's, of each run.
     pub limit: u32,
@@ -135,23 +162,6 @@ pub struct TriesWords {
 /// The most natives that a command line may name.
 const MAX_NATIVES: usize = 16;
 
-/// The program's version. Its number stands here alone: the tools take it from this line.
-const VERSION: &str = "0.1.0";
-
-/// What stands below the list of commands: what the files are, and the exit statuses.
-const NOTES: &str = "\
-A text is a program as you write it, and an image the same in bytes, as asm makes it. With --asm a command
-takes the text itself. A script says what happens to a run from outside, line by line; it may be empty.
-With --explain, check, run and asm say what a fault means, where it is and what usually mends it.
-
-Exit status:
- 0 all is well
- 1 the image or the text is refused
- 2 the words, the script or the natives are refused
- 3 the run waits for what will not come, or is at its limit
- 4 main or a dispatch has ended in an error
- 5 a file, the output or memory has failed";
-
 /// Reads a command line, the program's own word first.
 pub fn read_words(alloc: Global, words: Vec<String>) -> Result<Words, WordsFault>
     ensures asks { IfOk result (λ asked. Asks (subcommand_of form (texts_of words.items)) asked) }
@@ -171,218 +181,6 @@ pub fn read_words(alloc: Global, words: Vec<String>) -> Result<Words, WordsFault
             Err(refusal)
         }
     }
-}
-
-/// The program's command line: a word for what is done, and that command's own words.
-fn aom_command<'a>(alloc: Global) -> Result<Command<'a>, AllocError>
-    ensures { IfOk result (λ c. app_of c ≡ form) }
-{
-    let command = Command::new(alloc, "aom")
-        .about("Assembles, checks, runs and debugs programs of active objects")
-        .after_help(NOTES)
-        .version(VERSION)
-        .subcommand_required(true);
-    with_translations(alloc, with_uses(alloc, command))
-}
-
-/// Adds what is done with an image.
-fn with_uses<'a>(alloc: Global, command: Command<'a>) -> Result<Command<'a>, AllocError>
-    ensures { IfOk result (λ c. app_of c ≡ with_subcommand (with_subcommand (with_subcommand (with_subcommand (app_of command.entry) check_form.top) run_form.top) explore_form.top) debug_form.top) }
-{
-    let command = with_command(command, check_command(alloc));
-    let command = with_made(command, run_command(alloc));
-    let command = with_made(command, explore_command(alloc));
-    with_made(command, debug_command(alloc))
-}
-
-/// Adds what makes an image of a text, and texts of an image.
-fn with_translations<'a>(
-    alloc: Global,
-    command: Result<Command<'a>, AllocError>,
-) -> Result<Command<'a>, AllocError>
-    ensures { (to : App) → IfOk command.entry (λ c. app_of c ≡ to) → IfOk result (λ c. app_of c ≡ with_subcommand (with_subcommand (with_subcommand to asm_form.top) dis_form.top) dot_form.top) }
-{
-    let command = with_made(command, asm_command(alloc));
-    let command = with_made(command, dis_command(alloc));
-    with_made(command, dot_command(alloc))
-}
-
-/// Adds a command, where both were made.
-fn with_made<'a>(
-    command: Result<Command<'a>, AllocError>,
-    made: Result<Command<'a>, AllocError>,
-) -> Result<Command<'a>, AllocError>
-    ensures { IfOk result (λ c. IsOkAnd command.entry (λ b. IsOkAnd made.entry (λ m. AddsSubcommand b m c))) }
-{
-    match command {
-        Ok(command) => with_command(command, made),
-        Err(error) => {
-            leave_made(made);
-            Err(error)
-        }
-    }
-}
-
-/// Adds a command that was made.
-fn with_command<'a>(
-    command: Command<'a>,
-    made: Result<Command<'a>, AllocError>,
-) -> Result<Command<'a>, AllocError>
-    ensures { IfOk result (λ c. IsOkAnd made.entry (λ m. AddsSubcommand command.entry m c)) }
-{
-    match made {
-        Ok(made) => command.subcommand(made),
-        Err(error) => {
-            leave(command);
-            Err(error)
-        }
-    }
-}
-
-/// Gives a command up, where it was made.
-fn leave_made(made: Result<Command, AllocError>) {
-    match made {
-        Ok(made) => leave(made),
-        Err(_) => {}
-    }
-}
-
-/// Gives a command up: `clap` takes it with no words, and frees it.
-fn leave(command: Command) {
-    let no_words: &[&str] = Default::default();
-    let _ = command.try_get_matches_from(no_words);
-}
-
-fn check_command<'a>(alloc: Global) -> Result<Command<'a>, AllocError>
-    ensures { IfOk result (λ c. HasForm check_form c) }
-{
-    let command = Command::new(alloc, "check")
-        .about("Says whether an image is accepted, or what is wrong with it first")
-        .arg(prices_arg(alloc));
-    let command = with_arg(command, explain_arg(alloc));
-    let command = with_arg(command, lines_arg(alloc));
-    let command = with_arg(command, text_arg(alloc));
-    let command = with_arg(command, asm_arg(alloc));
-    with_arg(
-        command,
-        file_arg(
-            alloc,
-            "IMAGE",
-            "The file of an image; with --asm of an assembly text",
-        ),
-    )
-}
-
-/// Adds an argument to a command, where that was made.
-fn with_arg<'a>(
-    command: Result<Command<'a>, AllocError>,
-    arg: Arg<'a>,
-) -> Result<Command<'a>, AllocError>
-    ensures { IfOk result (λ c. IsOkAnd command.entry (λ m. AddsArg m arg.entry c)) }
-{
-    command?.arg(arg)
-}
-
-fn asm_command<'a>(alloc: Global) -> Result<Command<'a>, AllocError>
-    ensures { IfOk result (λ c. HasForm asm_form c) }
-{
-    let command = Command::new(alloc, "asm")
-        .about("Assembles a text: writes the image to standard output")
-        .arg(explain_arg(alloc));
-    with_arg(
-        command,
-        file_arg(alloc, "TEXT", "The file of an assembly text"),
-    )
-}
-
-fn dis_command<'a>(alloc: Global) -> Result<Command<'a>, AllocError>
-    ensures { IfOk result (λ c. HasForm dis_form c) }
-{
-    Command::new(alloc, "dis")
-        .about("Lists an image: writes it as a text to standard output")
-        .arg(file_arg(alloc, "IMAGE", "The file of an image"))
-}
-
-fn dot_command<'a>(alloc: Global) -> Result<Command<'a>, AllocError>
-    ensures { IfOk result (λ c. HasForm dot_form c) }
-{
-    let command = Command::new(alloc, "dot")
-        .about("Draws an image: writes its classes and methods as a graph for Graphviz")
-        .arg(text_arg(alloc));
-    let command = with_arg(command, asm_arg(alloc));
-    with_arg(
-        command,
-        file_arg(
-            alloc,
-            "IMAGE",
-            "The file of an image; with --asm of an assembly text",
-        ),
-    )
-}
-
-fn run_command<'a>(alloc: Global) -> Result<Command<'a>, AllocError>
-    ensures { IfOk result (λ c. HasForm run_form c) }
-{
-    let command = Command::new(alloc, "run")
-        .about("Checks an image, runs it under a script and writes the transcript")
-        .arg(limit_arg(alloc));
-    let command = with_arg(command, explain_arg(alloc));
-    let command = with_arg(command, names_arg(alloc));
-    let command = with_arg(command, text_arg(alloc));
-    with_files(alloc, command)
-}
-
-fn explore_command<'a>(alloc: Global) -> Result<Command<'a>, AllocError>
-    ensures { IfOk result (λ c. HasForm explore_form c) }
-{
-    let command = Command::new(alloc, "explore")
-        .about("Runs an image again with each fault in turn, such as a refused request for memory")
-        .arg(limit_arg(alloc));
-    let command = with_arg(command, from_arg(alloc));
-    let command = with_arg(command, to_arg(alloc));
-    let command = with_arg(command, kills_arg(alloc));
-    let command = with_arg(command, deaths_arg(alloc));
-    let command = with_arg(command, pairs_arg(alloc));
-    let command = with_arg(command, tries_arg(alloc));
-    let command = with_arg(command, text_arg(alloc));
-    with_files(alloc, command)
-}
-
-fn debug_command<'a>(alloc: Global) -> Result<Command<'a>, AllocError>
-    ensures { IfOk result (λ c. HasForm debug_form c) }
-{
-    let command = Command::new(alloc, "debug")
-        .about("Runs an image step by step, by commands from standard input; help tells them")
-        .arg(limit_arg(alloc));
-    let command = with_arg(command, text_arg(alloc));
-    with_files(alloc, command)
-}
-
-/// Adds the files of a run, and its natives.
-fn with_files<'a>(
-    alloc: Global,
-    command: Result<Command<'a>, AllocError>,
-) -> Result<Command<'a>, AllocError>
-    ensures { (form : App) → IfOk command.entry (λ c. HasForm form c) → IfOk result (λ c. HasForm (with_files form) c) }
-{
-    let command = with_arg(command, asm_arg(alloc));
-    let command = with_arg(
-        command,
-        file_arg(
-            alloc,
-            "IMAGE",
-            "The file of an image; with --asm of an assembly text",
-        ),
-    );
-    let command = with_arg(
-        command,
-        file_arg(
-            alloc,
-            "SCRIPT",
-            "The file of a script; /dev/null is an empty one",
-        ),
-    );
-    with_arg(command, native_arg(alloc))
 }
 
 /// What `clap` has to say of the words, unless it had no memory for that.
@@ -422,6 +220,8 @@ fn command_words(alloc: Global, command: &str, own: &ArgMatches) -> Result<Words
         "asm" => asm_words(alloc, own),
         "dis" => dis_words(alloc, own),
         "dot" => dot_words(alloc, own),
+        "compile" => compile_words(alloc, own),
+        "show" => show_words(alloc, own),
         _ => Err(WordsFault::Text(String::new(alloc))),
     }
 }
@@ -433,16 +233,38 @@ fn check_words(alloc: Global, own: &ArgMatches) -> Result<Words, WordsFault>
     let explain = is_set(own, "explain");
     let lines = is_set(own, "lines");
     let prices = is_set(own, "prices");
-    let asm = is_set(own, "asm");
-    fit_lines(alloc, own, explain, asm, lines)?;
+    let kind = file_kind_of(alloc, own)?;
+    fit_lines(alloc, own, explain, kind, lines)?;
     Ok(Words::Check {
-        text: text_of(alloc, own, explain | lines | prices, asm)?,
+        text: text_of(alloc, own, explain | lines | prices, kind)?,
         image: word_of(alloc, own, "IMAGE")?,
         prices,
-        asm,
+        kind,
         explain,
         lines,
     })
+}
+
+/// What the words say that the file of a program is. It is not both a text and a source.
+fn file_kind_of(alloc: Global, own: &ArgMatches) -> Result<FileKind, WordsFault>
+    ensures asks { IfOk result (λ kind. AsksKind (rows_of (found_of own.now)) kind) }
+    ensures declines { IfErr result (λ fault. DeclinesKind (rows_of (found_of own.now)) fault) }
+{
+    let source = is_set(own, "source");
+    if !is_set(own, "asm") {
+        return Ok(if source {
+            FileKind::Source
+        } else {
+            FileKind::Image
+        });
+    }
+    if source {
+        return Err(WordsFault::Text(String::from_str(
+            alloc,
+            "error: --source has no use beside --asm\n",
+        )?));
+    }
+    Ok(FileKind::Assembly)
 }
 
 /// Refuses lines beside an explanation, and where there is no text whose lines they could be.
@@ -450,13 +272,13 @@ fn fit_lines(
     alloc: Global,
     own: &ArgMatches,
     explain: bool,
-    asm: bool,
+    kind: FileKind,
     lines: bool,
 ) -> Result<(), WordsFault>
     requires explain { IsFlag (one_of (codes "explain") (rows_of (found_of own.now))) explain }
-    requires asm { IsFlag (one_of (codes "asm") (rows_of (found_of own.now))) asm }
+    requires kind { AsksKind (rows_of (found_of own.now)) kind }
     requires lines { IsFlag (one_of (codes "lines") (rows_of (found_of own.now))) lines }
-    ensures asks { IfOk result (λ _. AsksLines (rows_of (found_of own.now)) explain asm lines) }
+    ensures asks { IfOk result (λ _. AsksLines (rows_of (found_of own.now)) explain kind lines) }
     ensures declines { IfErr result (λ fault. DeclinesLines (rows_of (found_of own.now)) fault) }
 {
     if !lines {
@@ -472,7 +294,7 @@ fn fit_lines(
         alloc,
         own,
         "lines",
-        asm,
+        kind.is_assembly(),
         "error: --lines asks for --asm or --text\n",
     )
 }
@@ -482,27 +304,27 @@ fn fit_text(
     alloc: Global,
     own: &ArgMatches,
     id: &str,
-    asm: bool,
+    is_text: bool,
     refusal: &str,
 ) -> Result<(), WordsFault>
     requires asked { one_of id.now (rows_of (found_of own.now)) ≢ Some (codes "false") }
-    requires asm { IsFlag (one_of (codes "asm") (rows_of (found_of own.now))) asm }
-    ensures asks { IfOk result (λ _. (asm ≡ true) ⊎ (first_of (codes "text") (rows_of (found_of own.now)) ≢ None)) }
+    requires image { is_text ≡ false → one_of (codes "asm") (rows_of (found_of own.now)) ≢ Some (codes "true") }
+    ensures asks { IfOk result (λ _. (is_text ≡ true) ⊎ (first_of (codes "text") (rows_of (found_of own.now)) ≢ None)) }
     ensures declines { IfErr result (λ fault. DeclinesTextless id.now (rows_of (found_of own.now)) fault) }
 {
     let text = own.get_str("text");
     match text {
         Some(_) => Ok(()),
-        None if asm => Ok(()),
+        None if is_text => Ok(()),
         None => Err(WordsFault::Text(String::from_str(alloc, refusal)?)),
     }
 }
 
 /// Refuses names where there is no text that has them.
-fn fit_names(alloc: Global, own: &ArgMatches, asm: bool, names: bool) -> Result<(), WordsFault>
-    requires asm { IsFlag (one_of (codes "asm") (rows_of (found_of own.now))) asm }
+fn fit_names(alloc: Global, own: &ArgMatches, kind: FileKind, names: bool) -> Result<(), WordsFault>
+    requires kind { AsksKind (rows_of (found_of own.now)) kind }
     requires names { IsFlag (one_of (codes "names") (rows_of (found_of own.now))) names }
-    ensures asks { IfOk result (λ _. AsksNames (rows_of (found_of own.now)) asm names) }
+    ensures asks { IfOk result (λ _. AsksNames (rows_of (found_of own.now)) kind names) }
     ensures declines { IfErr result (λ fault. DeclinesTextless (codes "names") (rows_of (found_of own.now)) fault) }
 {
     if !names {
@@ -512,8 +334,8 @@ fn fit_names(alloc: Global, own: &ArgMatches, asm: bool, names: bool) -> Result<
         alloc,
         own,
         "names",
-        asm,
-        "error: --names asks for --asm or --text\n",
+        !kind.is_image(),
+        "error: --names asks for --asm, --source or --text\n",
     )
 }
 
@@ -523,31 +345,35 @@ fn running_words(alloc: Global, own: &ArgMatches) -> Result<Words, WordsFault>
 {
     let explain = is_set(own, "explain");
     let names = is_set(own, "names");
-    let asm = is_set(own, "asm");
-    fit_names(alloc, own, asm, names)?;
+    let kind = file_kind_of(alloc, own)?;
+    fit_names(alloc, own, kind, names)?;
     Ok(Words::Run {
-        text: text_of(alloc, own, explain | names, asm)?,
-        run: run_words(alloc, own, asm)?,
+        text: text_of(alloc, own, explain | names, kind)?,
+        run: run_words(alloc, own, kind)?,
         explain,
         names,
     })
 }
 
-/// The text that is named beside an image, which is refused where it is of no use, and where the file is itself a text.
+/// The text that is named beside an image, which is refused where it is of no use, and where the file is no image.
 fn text_of(
     alloc: Global,
     own: &ArgMatches,
     used: bool,
-    asm: bool,
+    kind: FileKind,
 ) -> Result<Option<String>, WordsFault>
-    requires asm { IsFlag (one_of (codes "asm") (rows_of (found_of own.now))) asm }
-    ensures asks { IfOk result (λ text. AsksText (rows_of (found_of own.now)) used asm text) }
+    requires kind { AsksKind (rows_of (found_of own.now)) kind }
+    ensures asks { IfOk result (λ text. AsksText (rows_of (found_of own.now)) used kind text) }
     ensures declines { IfErr result (λ fault. DeclinesText (rows_of (found_of own.now)) used fault) }
 {
     match own.get_str("text") {
-        Some(_) if asm => Err(WordsFault::Text(String::from_str(
+        Some(_) if !kind.is_image() => Err(WordsFault::Text(String::from_str(
             alloc,
-            "error: --text has no use beside --asm\n",
+            if kind.is_assembly() {
+                "error: --text has no use beside --asm\n"
+            } else {
+                "error: --text has no use beside --source\n"
+            },
         )?)),
         Some(name) if used => Ok(Some(String::from_str(alloc, name)?)),
         Some(_) => Err(WordsFault::Text(String::from_str(
@@ -562,10 +388,10 @@ fn explore_words(alloc: Global, own: &ArgMatches) -> Result<Words, WordsFault>
     ensures asks { IfOk result (λ asked. Asks (Some (codes "explore", rows_of (found_of own.now))) asked) }
     ensures declines { IfErr result (λ fault. Declines true (Some (codes "explore", rows_of (found_of own.now))) fault) }
 {
-    let asm = is_set(own, "asm");
+    let kind = file_kind_of(alloc, own)?;
     Ok(Words::Explore {
-        text: text_of(alloc, own, true, asm)?,
-        run: run_words(alloc, own, asm)?,
+        text: text_of(alloc, own, true, kind)?,
+        run: run_words(alloc, own, kind)?,
         tries: tries_words(own),
     })
 }
@@ -588,10 +414,10 @@ fn debug_words(alloc: Global, own: &ArgMatches) -> Result<Words, WordsFault>
     ensures asks { IfOk result (λ asked. Asks (Some (codes "debug", rows_of (found_of own.now))) asked) }
     ensures declines { IfErr result (λ fault. Declines true (Some (codes "debug", rows_of (found_of own.now))) fault) }
 {
-    let asm = is_set(own, "asm");
+    let kind = file_kind_of(alloc, own)?;
     Ok(Words::Debug {
-        text: text_of(alloc, own, true, asm)?,
-        run: run_words(alloc, own, asm)?,
+        text: text_of(alloc, own, true, kind)?,
+        run: run_words(alloc, own, kind)?,
     })
 }
 
@@ -611,7 +437,26 @@ fn dis_words(alloc: Global, own: &ArgMatches) -> Result<Words, WordsFault>
     ensures declines { IfErr result (λ fault. Declines true (Some (codes "dis", rows_of (found_of own.now))) fault) }
 {
     let image = word_of(alloc, own, "IMAGE")?;
-    Ok(Words::Dis { image })
+    Ok(Words::Dis {
+        image,
+        source: is_set(own, "source"),
+    })
+}
+
+fn compile_words(alloc: Global, own: &ArgMatches) -> Result<Words, WordsFault>
+    ensures asks { IfOk result (λ asked. Asks (Some (codes "compile", rows_of (found_of own.now))) asked) }
+    ensures declines { IfErr result (λ fault. Declines true (Some (codes "compile", rows_of (found_of own.now))) fault) }
+{
+    let source = word_of(alloc, own, "SOURCE")?;
+    Ok(Words::Compile { source })
+}
+
+fn show_words(alloc: Global, own: &ArgMatches) -> Result<Words, WordsFault>
+    ensures asks { IfOk result (λ asked. Asks (Some (codes "show", rows_of (found_of own.now))) asked) }
+    ensures declines { IfErr result (λ fault. Declines true (Some (codes "show", rows_of (found_of own.now))) fault) }
+{
+    let source = word_of(alloc, own, "SOURCE")?;
+    Ok(Words::Show { source })
 }
 
 fn dot_words(alloc: Global, own: &ArgMatches) -> Result<Words, WordsFault>
@@ -619,25 +464,25 @@ fn dot_words(alloc: Global, own: &ArgMatches) -> Result<Words, WordsFault>
     ensures declines { IfErr result (λ fault. Declines true (Some (codes "dot", rows_of (found_of own.now))) fault) }
 {
     let image = word_of(alloc, own, "IMAGE")?;
-    let asm = is_set(own, "asm");
+    let kind = file_kind_of(alloc, own)?;
     Ok(Words::Dot {
-        text: text_of(alloc, own, true, asm)?,
+        text: text_of(alloc, own, true, kind)?,
         image,
-        asm,
+        kind,
     })
 }
 
-/// What is to run: an image, or what a text denotes.
-fn run_words(alloc: Global, own: &ArgMatches, asm: bool) -> Result<RunWords, WordsFault>
-    requires { IsFlag (one_of (codes "asm") (rows_of (found_of own.now))) asm }
+/// What is to run: an image, or what a text or a source stands for.
+fn run_words(alloc: Global, own: &ArgMatches, kind: FileKind) -> Result<RunWords, WordsFault>
+    requires { AsksKind (rows_of (found_of own.now)) kind }
     ensures asks { IfOk result (λ run. AsksRun (rows_of (found_of own.now)) run) }
-    ensures asm { IfOk result (λ run. run.asm ≡ asm) }
+    ensures kind { IfOk result (λ run. run.kind ≡ kind) }
     ensures declines { IfErr result (λ fault. DeclinesRun (rows_of (found_of own.now)) fault) }
 {
     Ok(RunWords {
         natives: natives_of(alloc, own)?,
         image: word_of(alloc, own, "IMAGE")?,
-        asm,
+        kind,
         script: word_of(alloc, own, "SCRIPT")?,
         limit: limit_of(own),
     })

@@ -7,3 +7,4 @@ pub use aom_debug_protocol::{
     Answer, AnswerLine, Branch, Breakpoints, ClientNumber, CodeLocation, Command, Content,
     DebugFault, History, Outer, Path, Pending, Phase, Source, help_text, line_of, read_command,
 };
+pub use aom_memory::SliceReader;

@@ -2,6 +2,6 @@ mod debugging;
 mod faults;
 mod linking;
 mod listing;
-mod memory_sink;
+mod memory;
 mod one_line;
 mod running;

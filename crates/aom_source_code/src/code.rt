@@ -1,4 +1,6 @@
 //! The instructions of a method.
+ghost use Rattle.std.specs.Prelude.{◌≡◌, ◌<◌, [], ◌∷◌, ◌++◌, IfOk, IsErr, None, OnOk, Some, get_or, length, map, set};
+
 use crate::line::{Line, Note, Operand};
 use crate::operation::Operation;
 use std::alloc::{AllocError, Global};
@@ -20,13 +22,17 @@ pub struct NamedRegister<'a> {
 #[derive(Drop)]
 pub struct Code<'a> {
     pub lines: Vec<Line<'a>>,
-    labels: Vec<Option<usize>>,
+    pub labels: Vec<Option<usize>>,
     pub names: Vec<NamedRegister<'a>>,
 }
 
 impl<'a> Code<'a> {
     /// No instruction.
-    pub fn new(alloc: Global) -> Code<'a> {
+    pub fn new(alloc: Global) -> Code<'a>
+        ensures lines { result.lines.items ≡ [] }
+        ensures labels { result.labels.items ≡ [] }
+        ensures names { result.names.items ≡ [] }
+    {
         Code {
             lines: Vec::new(alloc),
             labels: Vec::new(alloc),
@@ -41,7 +47,12 @@ impl<'a> Code<'a> {
         operands: [Operand; 4],
         token: u32,
         note: Note<'a>,
-    ) -> Result<(), AllocError> {
+    ) -> Result<(), AllocError>
+        ensures added { OnOk result (self.new.lines.items ≡ self.old.lines.items ++ record { operation = operation; operands = operands; token = token; note = note.entry } ∷ []) }
+        ensures refused { IsErr result → self.new.lines.items ≡ self.old.lines.items }
+        ensures labels { self.new.labels.items ≡ self.old.labels.items }
+        ensures names { self.new.names.items ≡ self.old.names.items }
+    {
         self.lines.push(Line {
             operation,
             operands,
@@ -52,21 +63,30 @@ impl<'a> Code<'a> {
     }
 
     /// A label that stands nowhere yet.
-    pub fn new_label(&mut self) -> Result<LabelId, AllocError> {
+    pub fn new_label(&mut self) -> Result<LabelId, AllocError>
+        ensures number { IfOk result (λ label. label.0 ≡ length self.old.labels.items) }
+        ensures nowhere { OnOk result (self.new.labels.items ≡ self.old.labels.items ++ None ∷ []) }
+        ensures lines { self.new.lines.items ≡ self.old.lines.items }
+    {
         let label = LabelId(self.labels.len());
         self.labels.push(None)?;
         Ok(label)
     }
 
     /// Puts a label where the next instruction comes.
-    pub fn place(&mut self, label: LabelId) {
+    pub fn place(&mut self, label: LabelId)
+        ensures here { label.0 < length self.old.labels.items → self.new.labels.items ≡ set self.old.labels.items label.0 (Some (length self.old.lines.items)) }
+        ensures lines { self.new.lines.items ≡ self.old.lines.items }
+    {
         if label.0 < self.labels.len() {
             self.labels[label.0] = Some(self.lines.len());
         }
     }
 
     /// The instruction at which a label stands.
-    pub fn place_of(&self, label: LabelId) -> Option<usize> {
+    pub fn place_of(&self, label: LabelId) -> Option<usize>
+        ensures { result ≡ get_or self.now.labels.items label.0 None }
+    {
         match self.labels.get(label.0) {
             Some(place) => *place,
             None => None,
@@ -101,7 +121,9 @@ impl<'a> Code<'a> {
     }
 
     /// A jump to a `ret` becomes that `ret`, and a jump to a jump leads where the second does.
-    pub fn shorten_jumps(&mut self) {
+    pub fn shorten_jumps(&mut self)
+        ensures map { map (λ l. l.token) self.new.lines.items ≡ map (λ l. l.token) self.old.lines.items }
+    {
         let count = self.lines.len();
         for back in 0..count {
             let at = count - 1 - back;
@@ -111,7 +133,9 @@ impl<'a> Code<'a> {
         }
     }
 
-    fn shorten_jump(&mut self, at: usize) {
+    fn shorten_jump(&mut self, at: usize)
+        ensures map { map (λ l. l.token) self.new.lines.items ≡ map (λ l. l.token) self.old.lines.items }
+    {
         if self.lines.len() <= at {
             return;
         }
@@ -126,8 +150,12 @@ impl<'a> Code<'a> {
         }
         let line = self.lines[target];
         if line.operation == Operation::Return || line.operation == Operation::Jump {
-            self.lines[at].operation = line.operation;
-            self.lines[at].operands = line.operands;
+            let own = self.lines[at];
+            self.lines[at] = Line {
+                operation: line.operation,
+                operands: line.operands,
+                ..own
+            };
         }
     }
 }

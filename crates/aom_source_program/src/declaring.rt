@@ -8,6 +8,13 @@ use crate::source::Source;
 use aom_source_syntax::Action;
 use std::alloc::Global;
 
+/// The most classes of an image, the most servers among them, and the most letters of a class's name.
+const MOST_CLASSES: usize = 256;
+
+const MOST_SERVERS: usize = 8;
+
+const MOST_LETTERS: usize = 32;
+
 /// The program that a source declares, whose classes are not put into order yet.
 pub fn declare<'a>(alloc: Global, source: &Source<'_, 'a>) -> Result<Program<'a>, Fault<'a>> {
     let constants = Constants::read(alloc, source)?;
@@ -78,16 +85,36 @@ impl<'s, 't, 'a> Declaring<'s, 't, 'a> {
             }
             if action == Action::ClassName {
                 let name = self.source.name(at)?;
-                if self.program.class_named(name).is_some()
-                    || self.program.constants.is_enum(name)
-                {
-                    return Err(self.source.fault(FaultKind::DoubleName, at).about(name));
+                if let Some(fault) = self.class_fault(name, kind) {
+                    return Err(self.source.fault(fault, at).about(name));
                 }
                 let class = self.blank_class(name, self.source.token(begin), kind);
                 self.program.classes.push(class)?;
             }
         }
         Ok(())
+    }
+
+    /// What is wrong with one class more of that name and kind.
+    fn class_fault(&self, name: &[u8], kind: ClassKind) -> Option<FaultKind> {
+        let classes = &self.program.classes;
+        if self.program.class_named(name).is_some() || self.program.constants.is_enum(name) {
+            return Some(FaultKind::DoubleName);
+        }
+        if MOST_LETTERS < name.len() {
+            return Some(FaultKind::NameTooLong);
+        }
+        if MOST_CLASSES <= classes.len() {
+            return Some(FaultKind::TooManyClasses);
+        }
+        let servers = classes
+            .iter()
+            .filter(|class| class.kind == ClassKind::Server)
+            .count();
+        if kind == ClassKind::Server && MOST_SERVERS <= servers {
+            return Some(FaultKind::TooManyServers);
+        }
+        None
     }
 
     fn blank_class(&self, name: &'a [u8], token: u32, kind: ClassKind) -> Class<'a> {
@@ -126,10 +153,12 @@ impl<'s, 't, 'a> Declaring<'s, 't, 'a> {
 
     fn read_part(&mut self, action: Action, at: usize) -> Result<(), Fault<'a>> {
         match action {
-            Action::Cells => self.program.cells = self.number_before(at)?,
-            Action::Messages => self.program.messages = self.number_before(at)?,
-            Action::Natives => self.program.natives = self.number_before(at)?,
-            Action::MainBudget => self.program.budget = Some(self.number_before(at)?),
+            Action::Cells => self.program.cells = self.number_before(at, 0, 4096)?,
+            Action::Messages => self.program.messages = self.number_before(at, 0, 1024)?,
+            Action::Natives => self.program.natives = self.number_before(at, 0, 16)?,
+            Action::MainBudget => self.program.budget = Some(self.number_before(
+                at, 0, 4294967295,
+            )?),
             Action::RootWord => {
                 if self.source.name(at)? != b"root".as_slice() {
                     return Err(self.source.fault(FaultKind::Syntax, at));
@@ -150,15 +179,15 @@ impl<'s, 't, 'a> Declaring<'s, 't, 'a> {
             Action::ClassEnd => self.class = None,
             Action::NativeNumber => {
                 // it stands before the class's name
-                let number = self.number_before(at)?;
+                let number = self.number_before(at, 0, 15)?;
                 self.program.class_mut(ClassId(self.classes))?.number = number;
             }
             Action::MostSessions => {
-                let number = self.number_before(at)?;
+                let number = self.number_before(at, 1, 64)?;
                 self.this_class()?.number = number;
             }
             Action::ClassBudget => {
-                let budget = self.number_before(at)?;
+                let budget = self.number_before(at, 0, 4294967295)?;
                 self.this_class()?.budget = Some(budget);
             }
             Action::Parent => {
@@ -208,17 +237,17 @@ impl<'s, 't, 'a> Declaring<'s, 't, 'a> {
     }
 
     /// The constant before an item, as a number of a declaration.
-    fn number_before(&self, at: usize) -> Result<u32, Fault<'a>> {
+    fn number_before(&self, at: usize, least: i64, most: i64) -> Result<u32, Fault<'a>> {
         let end = at.saturating_sub(1);
         let begin = self.source.partner(end);
         let value = self
             .program
             .constants
             .constant(self.alloc, self.source, begin)?;
-        if value < 0 || 4294967295 < value {
-            return Err(self.source.fault(FaultKind::NumberRange, begin));
+        match u32::try_from(value) {
+            Ok(number) if least <= value && value <= most => Ok(number),
+            _ => Err(self.source.fault(FaultKind::NumberRange, begin)),
         }
-        Ok(value as u32)
     }
 
     fn read_method(&mut self, begin: usize) -> Result<(), Fault<'a>> {

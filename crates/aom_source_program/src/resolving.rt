@@ -18,7 +18,9 @@ pub fn resolve<'a>(program: &mut Program<'a>) -> Result<(), Fault<'a>> {
     for at in 0..program.classes.len() {
         check_parent(program, ClassId(at))?;
         check_owned(program, ClassId(at))?;
+        check_native(program, ClassId(at))?;
     }
+    check_root(program)?;
     order_classes(program)?;
     for at in 0..program.class_order.len() {
         let class = program.ordered(at)?;
@@ -103,6 +105,26 @@ fn check_owned<'a>(program: &Program<'a>, id: ClassId) -> Result<(), Fault<'a>> 
             if program.class(owned)?.kind == ClassKind::Session {
                 return Err(Fault::at(FaultKind::WrongKind, field.token).about(field.name));
             }
+        }
+    }
+    Ok(())
+}
+
+/// A native is one of those that the program has.
+fn check_native<'a>(program: &Program<'a>, id: ClassId) -> Result<(), Fault<'a>> {
+    let class = program.class(id)?;
+    if class.kind == ClassKind::Native && program.natives <= class.number {
+        return Err(Fault::at(FaultKind::NumberRange, class.token).about(class.name));
+    }
+    Ok(())
+}
+
+/// A session is owned by its server alone, so it is no root.
+fn check_root<'a>(program: &Program<'a>) -> Result<(), Fault<'a>> {
+    if let Some(root) = program.root {
+        let class = program.class(root)?;
+        if class.kind == ClassKind::Session {
+            return Err(Fault::at(FaultKind::WrongKind, class.token).about(class.name));
         }
     }
     Ok(())

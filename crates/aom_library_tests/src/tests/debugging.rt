@@ -1,8 +1,8 @@
 //! A program that steps through a run with the debugger.
-use super::memory_sink::MemorySink;
 use aom_library::commands::{ExitStatus, Program, Telling, asm, debug_bytes};
 use aom_library::debug::Reader;
 use aom_library::natives::Native;
+use aom_library::run::MemorySink;
 use std::test::Fail;
 
 /// The commands that are still to come.

@@ -1,6 +1,6 @@
 //! A program that tells what is wrong with an image in one line of its text.
-use super::memory_sink::MemorySink;
 use aom_library::commands::{ExitStatus, Program, Telling, asm, check};
+use aom_library::run::MemorySink;
 use std::test::Fail;
 
 const TEXT: &[u8] = b"image budget 1\nmethod main main\nstop\nret\nend\n";

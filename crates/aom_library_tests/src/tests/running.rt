@@ -1,9 +1,9 @@
 //! A program that checks an image, and runs it beside a native of its own.
 ghost use Rattle.std.specs.Prelude.{pos, negsuc, ◌≡◌, [], option_to_list};
 
-use super::memory_sink::MemorySink;
 use aom_library::commands::{ExitStatus, Program, Telling, asm, check_bytes, run_bytes};
 use aom_library::natives::Native;
+use aom_library::run::MemorySink;
 use std::alloc::Global;
 use std::test::Fail;
 

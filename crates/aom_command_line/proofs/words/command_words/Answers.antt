@@ -42,3 +42,15 @@ returns-in-dot-clause-asks c = rw c.in-dot.is c.dot_words.ensures.asks
 
 pub returns-in-dot-clause-declines : goal.returns-in-dot-clause-declines
 returns-in-dot-clause-declines c = rw c.in-dot.is c.dot_words.ensures.declines
+
+pub returns-in-show-clause-asks : goal.returns-in-show-clause-asks
+returns-in-show-clause-asks c = rw c.in-show.is c.show_words.ensures.asks
+
+pub returns-in-show-clause-declines : goal.returns-in-show-clause-declines
+returns-in-show-clause-declines c = rw c.in-show.is c.show_words.ensures.declines
+
+pub returns-in-compile-clause-asks : goal.returns-in-compile-clause-asks
+returns-in-compile-clause-asks c = rw c.in-compile.is c.compile_words.ensures.asks
+
+pub returns-in-compile-clause-declines : goal.returns-in-compile-clause-declines
+returns-in-compile-clause-declines c = rw c.in-compile.is c.compile_words.ensures.declines

@@ -7,5 +7,5 @@ use Rattle.aom_command_line.proofs.words.explore_words.Goals as goal
 pub returns-clause-asks : goal.returns-clause-asks
 returns-clause-asks c =
     let rows = rows_of (found_of c.args.own.now) in
-    let named = subst (λ asm. AsksText rows true asm c.in_ok-text_of.field-0) (sym c.in_ok-run_words.ensures.asm) c.in_ok-text_of.ensures.asks in
+    let named = subst (λ kind. AsksText rows true kind c.in_ok-text_of.field-0) (sym c.in_ok-run_words.ensures.kind) c.in_ok-text_of.ensures.asks in
     (refl, c.in_ok-run_words.ensures.asks, c.tries_words.ensures, named)

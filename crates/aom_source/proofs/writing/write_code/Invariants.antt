@@ -1,0 +1,7 @@
+-- The instructions so far have their lines.
+use Rattle.std.proofs.Common.{map, take}
+use Rattle.aom_source.specs.Map.{Adds}
+use Rattle.aom_source.proofs.writing.write_code.Given as goal
+
+abbrev pub invariant-loop-at : goal.invariant-loop-at
+invariant-loop-at l = Adds l.fn.written l.written (map (λ line. line.token) (take l.at l.code.lines.items))

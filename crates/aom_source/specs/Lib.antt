@@ -1,0 +1,3 @@
+pub mod Budgets
+pub mod Map
+pub mod Refusals

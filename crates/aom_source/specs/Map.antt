@@ -1,0 +1,44 @@
+-- Where the lines of a text that was written come from: a token of the source each.
+use Rattle.std.specs.Prelude.{List, [], ◌∷◌, ◌++◌, ℕ, ◌==◌, ◌≡◌, Option, Some, None, count_by, false, flat_map, get_or, map}
+use Rattle.aom_source_code.specs.declared.code.Code.{Code}
+use Rattle.aom_source_program.specs.declared.class.Class.{Class}
+use Rattle.aom_source_program.specs.declared.class.ClassId.{ClassId}
+use Rattle.aom_source_program.specs.declared.method.Method.{Method}
+use Rattle.aom_source_program.specs.declared.method.MethodId.{MethodId}
+use Rattle.aom_source_program.specs.declared.program.Program.{Program}
+use Rattle.aom_source.specs.declared.writing.Origin.{Origin}
+use Rattle.aom_source.specs.declared.writing.Writing.{Writing}
+
+-- how many lines a text has: each ends with a line feed
+abbrev pub line_count : (text : List ℕ) → ℕ
+line_count text = count_by (λ b. b == 10) text
+
+-- the tokens of origins
+abbrev pub tokens_of : List Origin → List ℕ
+tokens_of origins = map (λ o. o.token) origins
+
+-- lines of these tokens were written; where memory lacked once it lacks for ever
+abbrev pub Adds : (before after : Writing) → (tokens : List ℕ) → Type 0
+Adds before after tokens = after.lacks ≡ false → (before.lacks ≡ false) × (tokens_of after.origins.items ≡ tokens_of before.origins.items ++ tokens)
+
+-- an instruction's line is of the token that it comes of
+abbrev pub line_tokens : Code → List ℕ
+line_tokens code = map (λ l. l.token) code.lines.items
+
+-- a class's line is of its name
+abbrev pub class_tokens : List Class → List ClassId → List ℕ
+class_tokens classes order = map (λ id. get_or (map (λ c. c.token) classes) id.0 0) order
+
+abbrev pub code_tokens : Option Code → List ℕ
+code_tokens None = []
+code_tokens (Some code) = line_tokens code
+
+-- a method's lines: its head, its instructions, its end
+abbrev pub method_tokens : List Method → List (Option Code) → MethodId → List ℕ
+method_tokens methods codes id =
+    get_or (map (λ m. m.token) methods) id.0 0 ∷ code_tokens (get_or codes id.0 None) ++ get_or (map (λ m. m.end_token) methods) id.0 0 ∷ []
+
+-- the lines of a program: the header, the classes, the methods
+abbrev pub program_tokens : Program → List (Option Code) → List MethodId → List ℕ
+program_tokens program codes order =
+    0 ∷ class_tokens program.classes.items program.class_order.items ++ flat_map (method_tokens program.methods.items codes) order

@@ -1,0 +1,22 @@
+//! What is done with a source: it is compiled to an assembly text, or its author is told what is wrong with it.
+//!
+//! What is told of a refusal is the place, the fault's name, a sentence, the line with a mark, and a mend.
+#![tactic(auto)]
+
+mod compiling;
+mod judging;
+mod notes;
+mod saying;
+mod scripts;
+mod sending;
+mod showing;
+mod telling;
+mod told;
+mod words;
+
+pub use compiling::{Compiled, compile};
+pub use judging::accept_source;
+pub use scripts::script_of_source;
+pub use sending::compile_source;
+pub use showing::show_source;
+pub use telling::tell_refusals;
