@@ -25,7 +25,7 @@ Adds before after tokens = after.lacks ≡ false → (before.lacks ≡ false) ×
 abbrev pub line_tokens : Code → List ℕ
 line_tokens code = map (λ l. l.token) code.lines.items
 
--- a class's line is of its name
+-- a class's line is of the first token of its declaration
 abbrev pub class_tokens : List Class → List ClassId → List ℕ
 class_tokens classes order = map (λ id. get_or (map (λ c. c.token) classes) id.0 0) order
 

@@ -5,6 +5,7 @@
 
 mod driving;
 mod labels;
+mod naming;
 mod ordering;
 mod refusal;
 mod text;

@@ -1,7 +1,7 @@
 //! Why a source is not translated.
-ghost use Rattle.std.specs.Prelude.{List, ℕ, IfSome};
+ghost use Rattle.std.specs.Prelude.{◌≡◌, List, ℕ, IfSome};
 ghost use Rattle.aom_source_tokens.specs.Places.{IsPlaceIn};
-ghost use Rattle.aom_source.specs.Refusals.{IsToldIn};
+ghost use Rattle.aom_source.specs.Refusals.{IsOfByte, IsOfFault, IsOfSyntax, IsToldIn, place_of};
 
 use aom_source_program::{Fault, FaultKind};
 use aom_source_syntax::{SyntaxFault, SyntaxFaultKind};
@@ -23,7 +23,8 @@ pub enum Refusal<'a> {
 impl<'a> Refusal<'a> {
     /// The refusal of a token that cannot stand where it does.
     pub fn of_syntax(tokens: &Tokens<'a>, fault: SyntaxFault) -> Refusal<'a>
-        ensures { IsToldIn tokens.now.bytes result }
+        ensures is { IsOfSyntax tokens.now fault result }
+        ensures within { IsToldIn tokens.now.bytes result }
     {
         if let SyntaxFaultKind::OutOfMemory = fault.kind {
             return Refusal::OutOfMemory;
@@ -33,7 +34,8 @@ impl<'a> Refusal<'a> {
 
     /// The refusal of a fault, at the place of its token.
     pub fn of_fault(tokens: &Tokens<'a>, fault: Fault<'a>) -> Refusal<'a>
-        ensures { IsToldIn tokens.now.bytes result }
+        ensures is { IsOfFault tokens.now fault.entry result }
+        ensures within { IsToldIn tokens.now.bytes result }
     {
         if fault.kind == FaultKind::OutOfMemory {
             return Refusal::OutOfMemory;
@@ -43,7 +45,8 @@ impl<'a> Refusal<'a> {
 
     /// The refusal of a byte.
     pub fn of_token(fault: TokenFault) -> Refusal<'a>
-        ensures { (bytes : List ℕ) → IsPlaceIn bytes fault.place → IsToldIn bytes result }
+        ensures is { IsOfByte fault result }
+        ensures within { (bytes : List ℕ) → IsPlaceIn bytes fault.place → IsToldIn bytes result }
     {
         if let TokenFaultKind::OutOfMemory = fault.kind {
             return Refusal::OutOfMemory;
@@ -69,7 +72,8 @@ impl<'a> Refusal<'a> {
 
     /// Where it is told, if it is of a place.
     pub fn place(&self) -> Option<Place>
-        ensures { (bytes : List ℕ) → IsToldIn bytes self.now → IfSome result (λ p. IsPlaceIn bytes p) }
+        ensures is { result ≡ place_of self.now }
+        ensures within { (bytes : List ℕ) → IsToldIn bytes self.now → IfSome result (λ p. IsPlaceIn bytes p) }
     {
         match self {
             Refusal::Token(fault) => Some(fault.place),

@@ -2,6 +2,7 @@
 ghost use Rattle.std.specs.Prelude.{◌≡◌, [], ◌∷◌, IfOk, OnOk, false, flat_map, length};
 ghost use Rattle.aom_source.specs.Map.{Adds, class_tokens, line_count, line_tokens, method_tokens, program_tokens, tokens_of};
 
+use crate::naming::{write_members, write_registers};
 use crate::text::Text;
 use aom_source_code::{Code, LabelId, Line, Note, Operand, Operation, Reason};
 use aom_source_methods::{Summaries, Summary, first_states};
@@ -196,6 +197,7 @@ fn write_class<'a>(
         };
         text.count(b" budget ", class.budget.unwrap_or(found) as i64);
     }
+    write_members(text, class);
 }
 
 fn write_kind<'a>(text: &mut Text, program: &Program<'a>, class: &Class<'a>) {
@@ -249,6 +251,7 @@ fn write_method<'a>(
     write_head(&mut written.text, parts, method, summary, id);
     write_states(&mut written.text, parts.program, method, summary, id)?;
     write_signature(&mut written.text, parts.program, method);
+    write_registers(&mut written.text, code);
     written.end_line(method.token, Note::written());
     write_code(written, parts.program, code)?;
     written.text.words(b"end");

@@ -69,7 +69,7 @@ impl<'s, 't, 'a> Generator<'s, 't, 'a> {
     }
 
     /// Each local that a block has brought forth is the name of its register, from the block's first instruction to here.
-    fn name_registers(&mut self, scope: Scope)
+    pub fn name_registers(&mut self, scope: Scope)
         ensures { self.new.lacking ≡ None → self.new.code.names.items ≡ self.old.code.names.items ++ names_of scope.from (length self.old.code.lines.items) (drop scope.begin self.old.bound.items) }
     {
         let begin = scope.begin.min(self.bound.len());
