@@ -23,11 +23,14 @@ class Proofs:
         self.passed, self.failed, self.seconds, self.used = 0, 1, 0.0, 0.0
 
     def command(self):
-        """The words of the run, and what it finds around it. What earlier runs have proved is kept by rt ci itself, or else here."""
-        around = {**{name: it for name, it in os.environ.items() if name != KEPT_AT}, "RT_JOBS": str(self.jobs)}
+        """The words of the run, and what it finds around it. What earlier runs have proved is kept by rt ci itself, or else here. An rt that keeps proofs gives
+        idle processors to the checks at hand, unless it is told how many jobs there may be."""
+        around = {name: it for name, it in os.environ.items() if name not in (KEPT_AT, "RT_JOBS")}
         if keeps_proofs():
-            return rt_words("ci", *(["--anew"] if self.anew else [])), around
-        return rt_words("ci"), around if self.anew or not self.kept_at else {**around, KEPT_AT: self.kept_at}
+            fixed = {} if self.jobs == len(os.sched_getaffinity(0)) else {"RT_JOBS": str(self.jobs)}
+            return rt_words("ci", *(["--anew"] if self.anew else [])), {**around, **fixed}
+        kept_at = {} if self.anew or not self.kept_at else {KEPT_AT: self.kept_at}
+        return rt_words("ci"), {**around, "RT_JOBS": str(self.jobs), **kept_at}
 
     def run(self, hear):
         """Runs it, and hands on each line that it says."""

@@ -16,7 +16,7 @@ use aom_diagnostic_commands::{Program, Telling, asm, check, debug, dot, explore,
 use aom_fault_injection::{Part, Tries};
 use aom_host::{Input, Output, ReadError, read_file};
 use aom_natives::{Counter, Delay, Line, Native, NativeKind};
-use aom_source_commands::{compile_source, script_of_source, show_source};
+use aom_source_commands::{Output, compile_source, script_of_source, show_source};
 use aom_transcript::{Sink, write_text};
 use program::{ProgramFiles, Unready, compiled};
 use std::env;
@@ -197,9 +197,10 @@ fn execute<'a, W: Sink, E: Sink>(
             let text = read_file(rt, text)?;
             Ok(asm(alloc, Program::Text(&text), telling, out, errors))
         }
-        Words::Compile { source } => {
+        Words::Compile { source, map } => {
             let text = read_file(rt, source)?;
-            match compile_source(alloc, source.as_bytes(), &text, out, errors) {
+            let output = if *map { Output::Map } else { Output::Text };
+            match compile_source(alloc, source.as_bytes(), &text, output, out, errors) {
                 Ok(status) => Ok(status),
                 Err(fault) => Ok(telling.report(alloc, &fault, b"", errors)),
             }

@@ -91,6 +91,10 @@ deaths_rule = flag_rule (codes "deaths")
 abbrev pub pairs_rule : Rule
 pairs_rule = flag_rule (codes "pairs")
 
+-- `--map`
+abbrev pub map_rule : Rule
+map_rule = flag_rule (codes "map")
+
 -- `--names`
 abbrev pub names_rule : Rule
 names_rule = flag_rule (codes "names")
@@ -135,9 +139,9 @@ asm_form = with_rule (with_rule (new_app (codes "asm")) explain_rule) (file_rule
 abbrev pub dis_form : App
 dis_form = with_rule (with_rule (new_app (codes "dis")) source_rule) (file_rule (codes "IMAGE"))
 
--- compile SOURCE
+-- compile [--map] SOURCE
 abbrev pub compile_form : App
-compile_form = with_rule (new_app (codes "compile")) (file_rule (codes "SOURCE"))
+compile_form = with_rule (with_rule (new_app (codes "compile")) map_rule) (file_rule (codes "SOURCE"))
 
 -- show SOURCE
 abbrev pub show_form : App
@@ -341,7 +345,7 @@ Asks (Some met) (Explore run tries text) = (met.0 ≡ codes "explore") × AsksRu
 Asks (Some met) (Debug run text) = (met.0 ≡ codes "debug") × AsksRun met.1 run × AsksText met.1 true run.kind text
 Asks (Some met) (Asm text explain) = (met.0 ≡ codes "asm") × (string_bytes text ≡ word_of (codes "TEXT") met.1) × IsFlag (one_of (codes "explain") met.1) explain
 Asks (Some met) (Dis image source) = (met.0 ≡ codes "dis") × (string_bytes image ≡ word_of (codes "IMAGE") met.1) × IsFlag (one_of (codes "source") met.1) source
-Asks (Some met) (Compile source) = (met.0 ≡ codes "compile") × (string_bytes source ≡ word_of (codes "SOURCE") met.1)
+Asks (Some met) (Compile source map) = (met.0 ≡ codes "compile") × (string_bytes source ≡ word_of (codes "SOURCE") met.1) × IsFlag (one_of (codes "map") met.1) map
 Asks (Some met) (Show source) = (met.0 ≡ codes "show") × (string_bytes source ≡ word_of (codes "SOURCE") met.1)
 Asks (Some met) (Dot image kind text) = (met.0 ≡ codes "dot") × (string_bytes image ≡ word_of (codes "IMAGE") met.1) × AsksKind met.1 kind × AsksText met.1 true kind text
 
@@ -390,6 +394,6 @@ KeepsLimit (Explore run tries text) = (1 ≤ run.limit) × (run.limit ≤ 100000
 KeepsLimit (Debug run text) = (1 ≤ run.limit) × (run.limit ≤ 1000000000)
 KeepsLimit (Asm text explain) = Unit {0}
 KeepsLimit (Dis image source) = Unit {0}
-KeepsLimit (Compile source) = Unit {0}
+KeepsLimit (Compile source map) = Unit {0}
 KeepsLimit (Show source) = Unit {0}
 KeepsLimit (Dot image kind text) = Unit {0}

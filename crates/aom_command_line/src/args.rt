@@ -1,7 +1,7 @@
 //! The arguments of commands.
 ghost use Rattle.std.specs.Prelude.{◌≡◌, false};
 ghost use Rattle.clap.specs.Words.{rule_of};
-ghost use Rattle.aom_command_line.specs.CommandLine.{asm_rule, deaths_rule, explain_rule, file_rule, flag_rule, from_rule, kills_rule, limit_rule, lines_rule, names_rule, native_rule, number_rule, pairs_rule, prices_rule, source_rule, text_rule, to_rule, tries_rule};
+ghost use Rattle.aom_command_line.specs.CommandLine.{asm_rule, deaths_rule, explain_rule, file_rule, flag_rule, from_rule, kills_rule, limit_rule, lines_rule, map_rule, names_rule, native_rule, number_rule, pairs_rule, prices_rule, source_rule, text_rule, to_rule, tries_rule};
 
 use clap::builder::ValueParser;
 use clap::{Arg, ArgAction, value_parser};
@@ -201,6 +201,17 @@ pub fn pairs_arg<'a>(alloc: Global) -> Arg<'a>
         alloc,
         "pairs",
         "Also refuses two requests for memory in one run, each pair in turn",
+    )
+}
+
+pub fn map_arg<'a>(alloc: Global) -> Arg<'a>
+    ensures rule { rule_of result ≡ map_rule }
+    ensures own { result.global ≡ false }
+{
+    flag_arg(
+        alloc,
+        "map",
+        "Writes where each line comes from, and the names of registers, in place of the text",
     )
 }
 

@@ -4,7 +4,7 @@ ghost use Rattle.clap.specs.Words.{AddsArg, AddsSubcommand, App, app_of, with_su
 ghost use Rattle.aom_command_line.specs.CommandLine.{HasForm, asm_form, check_form, compile_form, debug_form, dis_form, dot_form, explore_form, form, run_form, show_form, with_files, with_program};
 
 use crate::args::{
-    asm_arg, deaths_arg, explain_arg, file_arg, from_arg, kills_arg, limit_arg, lines_arg,
+    asm_arg, deaths_arg, explain_arg, file_arg, from_arg, kills_arg, limit_arg, lines_arg, map_arg,
     names_arg, native_arg, pairs_arg, prices_arg, source_arg, text_arg, to_arg, tries_arg,
 };
 use clap::{Arg, Command};
@@ -184,9 +184,10 @@ fn dis_command<'a>(alloc: Global) -> Result<Command<'a>, AllocError>
 fn compile_command<'a>(alloc: Global) -> Result<Command<'a>, AllocError>
     ensures { IfOk result (λ c. HasForm compile_form c) }
 {
-    Command::new(alloc, "compile")
+    let command = Command::new(alloc, "compile")
         .about("Compiles a source: writes it as an assembly text to standard output")
-        .arg(file_arg(alloc, "SOURCE", "The file of a source"))
+        .arg(map_arg(alloc));
+    with_arg(command, file_arg(alloc, "SOURCE", "The file of a source"))
 }
 
 fn show_command<'a>(alloc: Global) -> Result<Command<'a>, AllocError>

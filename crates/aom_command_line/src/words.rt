@@ -84,6 +84,8 @@ pub enum Words {
     /// A source is to be compiled to an assembly text.
     Compile {
         source: String,
+        /// Whether the map of the text is asked for, and not the text.
+        map: bool,
     },
     /// A source is to be shown with what was added to it.
     Show {
@@ -448,7 +450,10 @@ fn compile_words(alloc: Global, own: &ArgMatches) -> Result<Words, WordsFault>
     ensures declines { IfErr result (λ fault. Declines true (Some (codes "compile", rows_of (found_of own.now))) fault) }
 {
     let source = word_of(alloc, own, "SOURCE")?;
-    Ok(Words::Compile { source })
+    Ok(Words::Compile {
+        source,
+        map: is_set(own, "map"),
+    })
 }
 
 fn show_words(alloc: Global, own: &ArgMatches) -> Result<Words, WordsFault>

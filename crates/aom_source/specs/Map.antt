@@ -1,6 +1,7 @@
--- Where the lines of a text that was written come from: a token of the source each.
-use Rattle.std.specs.Prelude.{List, [], ◌∷◌, ◌++◌, ℕ, ◌==◌, ◌≡◌, Option, Some, None, count_by, false, flat_map, get_or, map}
+-- Where the lines of a text that was written come from, a token of the source each, and the names that registers have in them.
+use Rattle.std.specs.Prelude.{List, [], ◌∷◌, ◌++◌, ℕ, ◌+◌, ◌==◌, ◌≡◌, Option, Some, None, count_by, false, flat_map, get_or, length, map}
 use Rattle.aom_source_code.specs.declared.code.Code.{Code}
+use Rattle.aom_source_code.specs.declared.code.NamedRegister.{NamedRegister}
 use Rattle.aom_source_program.specs.declared.class.Class.{Class}
 use Rattle.aom_source_program.specs.declared.class.ClassId.{ClassId}
 use Rattle.aom_source_program.specs.declared.method.Method.{Method}
@@ -42,3 +43,32 @@ method_tokens methods codes id =
 abbrev pub program_tokens : Program → List (Option Code) → List MethodId → List ℕ
 program_tokens program codes order =
     0 ∷ class_tokens program.classes.items program.class_order.items ++ flat_map (method_tokens program.methods.items codes) order
+
+-- names of registers were written; where memory lacked once it lacks for ever
+abbrev pub Names : (before after : Writing) → (names : List NamedRegister) → Type 0
+Names before after names = after.lacks ≡ false → after.names.items ≡ before.names.items ++ names
+
+-- a name of a method's register, by the lines of a text in which the method's first instruction has this one
+abbrev pub at_line : ℕ → NamedRegister → NamedRegister
+at_line line n = record { name = n.name; register = n.register; from = line + n.from; to = line + n.to }
+
+abbrev pub code_names : Option Code → List NamedRegister
+code_names None = []
+code_names (Some code) = code.names.items
+
+-- the names of a method whose head has this line
+abbrev pub names_of_method : List (Option Code) → (line : ℕ) → MethodId → List NamedRegister
+names_of_method codes line id = map (at_line (line + 1)) (code_names (get_or codes id.0 None))
+
+-- a method's head, its instructions, its end
+abbrev pub method_length : List (Option Code) → MethodId → ℕ
+method_length codes id = length (code_tokens (get_or codes id.0 None)) + 2
+
+-- the names of methods that follow each other from this line on
+unfoldable pub method_names : List (Option Code) → (line : ℕ) → List MethodId → List NamedRegister
+method_names codes line [] = []
+method_names codes line (id ∷ ids) = names_of_method codes line id ++ method_names codes (line + method_length codes id) ids
+
+-- those of a program, whose methods come behind the header and the classes
+abbrev pub program_names : Program → List (Option Code) → List MethodId → List NamedRegister
+program_names program codes order = method_names codes (length program.class_order.items + 1) order

@@ -1,10 +1,10 @@
 //! The assembly text of a program, with the place in the source of each of its lines.
-ghost use Rattle.std.specs.Prelude.{◌≡◌, [], ◌∷◌, IfOk, OnOk, false, flat_map, length};
-ghost use Rattle.aom_source.specs.Map.{Adds, class_tokens, line_count, line_tokens, method_tokens, program_tokens, tokens_of};
+ghost use Rattle.std.specs.Prelude.{◌≡◌, [], ◌∷◌, IfOk, OnOk, false, flat_map, length, map};
+ghost use Rattle.aom_source.specs.Map.{Adds, Names, at_line, class_tokens, line_count, line_tokens, method_names, method_tokens, names_of_method, program_names, program_tokens, tokens_of};
 
 use crate::naming::{write_members, write_registers};
 use crate::text::Text;
-use aom_source_code::{Code, LabelId, Line, Note, Operand, Operation, Reason};
+use aom_source_code::{Code, LabelId, Line, NamedRegister, Note, Operand, Operation, Reason};
 use aom_source_methods::{Summaries, Summary, first_states};
 use aom_source_program::{
     Class, ClassId, ClassKind, Fault, FaultKind, Method, MethodId, Program, Role, Thing, ValueKind,
@@ -19,11 +19,12 @@ pub struct Origin<'a> {
     pub note: Note<'a>,
 }
 
-/// A text, and where each of its lines comes from.
+/// A text, where each of its lines comes from, and the names of registers, each from one line of the text to the one before another.
 #[derive(Drop)]
 pub struct Written<'a> {
     pub text: Vec<u8>,
     pub origins: Vec<Origin<'a>>,
+    pub names: Vec<NamedRegister<'a>>,
 }
 
 /// The budgets that are written where the source says none: of main, and of each class.
@@ -48,25 +49,29 @@ pub struct Parts<'s, 'a> {
 struct Writing<'a> {
     text: Text,
     origins: Vec<Origin<'a>>,
-    /// Whether an origin is missing, since there was no memory for it.
+    names: Vec<NamedRegister<'a>>,
+    /// Whether an origin or a name is missing, since there was no memory for it.
     lacks: bool,
 }
 
 impl<'a> Writing<'a> {
     /// Nothing yet.
     fn new(alloc: Global) -> Writing<'a>
-        ensures { result.origins.items ≡ [] }
+        ensures origins { result.origins.items ≡ [] }
+        ensures names { result.names.items ≡ [] }
     {
         Writing {
             text: Text::new(alloc),
             origins: Vec::new(alloc),
+            names: Vec::new(alloc),
             lacks: false,
         }
     }
 
     /// Ends a line.
     fn end_line(&mut self, token: u32, note: Note<'a>)
-        ensures { Adds self.old self.new (token ∷ []) }
+        ensures origins { Adds self.old self.new (token ∷ []) }
+        ensures names { self.new.names ≡ self.old.names }
     {
         self.text.words(b"\n");
         if self.origins.push(Origin { token, note }).is_err() {
@@ -74,14 +79,30 @@ impl<'a> Writing<'a> {
         }
     }
 
+    /// The registers of a method, whose first instruction comes in the next line, have these names.
+    fn add_names(&mut self, names: &[NamedRegister<'a>]) -> Result<(), Fault<'a>>
+        ensures names { OnOk result (Names self.old self.new (map (at_line (length self.old.origins.items)) names.now)) }
+        ensures origins { self.new.origins ≡ self.old.origins }
+    {
+        for named in names {
+            let named = named_at(self.origins.len(), *named)?;
+            if self.names.push(named).is_err() {
+                self.lacks = true;
+            }
+        }
+        Ok(())
+    }
+
     /// What was written, where there was memory for all of it. A name with a line feed, which no source has, would part the lines otherwise.
     fn written(self) -> Result<Written<'a>, Fault<'a>>
         ensures origins { IfOk result (λ w. (self.entry.lacks ≡ false) × (w.origins ≡ self.entry.origins)) }
+        ensures names { IfOk result (λ w. w.names ≡ self.entry.names) }
         ensures lines { IfOk result (λ w. line_count w.text.items ≡ length w.origins.items) }
     {
         let Writing {
             text,
             origins,
+            names,
             lacks,
         } = self;
         let Some(text) = text.bytes() else {
@@ -93,8 +114,21 @@ impl<'a> Writing<'a> {
         if count_lines(&text) != origins.len() {
             return Err(Fault::internal());
         }
-        Ok(Written { text, origins })
+        Ok(Written {
+            text,
+            origins,
+            names,
+        })
     }
+}
+
+/// A name of a method's register, by the lines of a text in which the method's first instruction has this one.
+fn named_at<'a>(line: usize, named: NamedRegister<'a>) -> Result<NamedRegister<'a>, Fault<'a>>
+    ensures { IfOk result (λ n. n ≡ at_line line named.entry) }
+{
+    let from = line.checked_add(named.from).ok_or(Fault::internal())?;
+    let to = line.checked_add(named.to).ok_or(Fault::internal())?;
+    Ok(NamedRegister { from, to, ..named })
 }
 
 /// How many lines a text has: each ends with a line feed.
@@ -123,6 +157,7 @@ fn write_label<'a>(text: &mut Text, program: &Program<'a>, method: MethodId) {
 pub fn write_program<'a>(parts: Parts<'_, 'a>, budgets: &Budgets) -> Result<Written<'a>, Fault<'a>>
     ensures map { IfOk result (λ w. tokens_of w.origins.items ≡ program_tokens parts.entry.program.now parts.entry.codes.now.items parts.entry.order.now.items) }
     ensures lines { IfOk result (λ w. line_count w.text.items ≡ length w.origins.items) }
+    ensures names { IfOk result (λ w. w.names.items ≡ program_names parts.entry.program.now parts.entry.codes.now.items parts.entry.order.now.items) }
 {
     let mut written = Writing::new(parts.program.alloc);
     write_header(&mut written.text, parts.program, budgets);
@@ -157,7 +192,8 @@ fn write_classes<'a>(
     program: &Program<'a>,
     budgets: &Budgets,
 ) -> Result<(), Fault<'a>>
-    ensures { OnOk result (Adds written.old written.new (class_tokens program.now.classes.items program.now.class_order.items)) }
+    ensures origins { OnOk result (Adds written.old written.new (class_tokens program.now.classes.items program.now.class_order.items)) }
+    ensures names { written.new.names ≡ written.old.names }
 {
     for id in &program.class_order {
         let Some(class) = program.classes.get(id.0) else {
@@ -226,7 +262,8 @@ fn write_thing<'a>(text: &mut Text, program: &Program<'a>, thing: Thing) {
 }
 
 fn write_methods<'a>(written: &mut Writing<'a>, parts: Parts<'_, 'a>) -> Result<(), Fault<'a>>
-    ensures { OnOk result (Adds written.old written.new (flat_map (method_tokens parts.entry.program.now.methods.items parts.entry.codes.now.items) parts.entry.order.now.items)) }
+    ensures origins { OnOk result (Adds written.old written.new (flat_map (method_tokens parts.entry.program.now.methods.items parts.entry.codes.now.items) parts.entry.order.now.items)) }
+    ensures names { OnOk result (Names written.old written.new (method_names parts.entry.codes.now.items (length written.old.origins.items) parts.entry.order.now.items)) }
 {
     for id in parts.order {
         write_method(written, parts, *id)?;
@@ -239,7 +276,8 @@ fn write_method<'a>(
     parts: Parts<'_, 'a>,
     id: MethodId,
 ) -> Result<(), Fault<'a>>
-    ensures { OnOk result (Adds written.old written.new (method_tokens parts.entry.program.now.methods.items parts.entry.codes.now.items id)) }
+    ensures origins { OnOk result (Adds written.old written.new (method_tokens parts.entry.program.now.methods.items parts.entry.codes.now.items id)) }
+    ensures names { OnOk result (Names written.old written.new (names_of_method parts.entry.codes.now.items (length written.old.origins.items) id)) }
 {
     let (Some(method), Some(Some(summary)), Some(Some(code))) = (
         parts.program.methods.get(id.0),
@@ -253,6 +291,7 @@ fn write_method<'a>(
     write_signature(&mut written.text, parts.program, method);
     write_registers(&mut written.text, code);
     written.end_line(method.token, Note::written());
+    written.add_names(&code.names)?;
     write_code(written, parts.program, code)?;
     written.text.words(b"end");
     written.end_line(method.end_token, Note::written());
@@ -360,7 +399,8 @@ fn write_code<'a>(
     program: &Program<'a>,
     code: &Code<'a>,
 ) -> Result<(), Fault<'a>>
-    ensures { OnOk result (Adds written.old written.new (line_tokens code.now)) }
+    ensures origins { OnOk result (Adds written.old written.new (line_tokens code.now)) }
+    ensures names { written.new.names ≡ written.old.names }
 {
     let labels = number_labels(program.alloc, code)?;
     for at in 0..code.lines.len() {

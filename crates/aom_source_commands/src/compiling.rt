@@ -1,13 +1,21 @@
-//! A source to its assembly text.
+//! A source to its assembly text, or to the map of that.
 ghost use Rattle.std.specs.Prelude.{IfOk};
-ghost use Rattle.aom_source_commands.specs.Compiling.{IsCompiled};
+ghost use Rattle.aom_source_commands.specs.Compiling.{IsCompiled, IsOutputOf};
 
+use crate::mapping::map_of;
 use crate::telling::tell_refusals;
-use aom_source::{Refusal, translate};
+use aom_source::{Refusal, Translation, translate};
 use aom_source_tokens::Tokens;
 use std::alloc::{AllocError, Global};
 
-/// What has come of a source: its assembly text, or what its author is told.
+/// What is written of a source that is compiled: its assembly text, or where the lines of that come from and the names of its registers.
+#[derive(Clone, Copy, PartialEq, Eq, Debug)]
+pub enum Output {
+    Text,
+    Map,
+}
+
+/// What has come of a source: what was asked for, or what its author is told.
 #[derive(Drop)]
 pub enum Compiled {
     Text(Vec<u8>),
@@ -15,8 +23,13 @@ pub enum Compiled {
 }
 
 /// Compiles a source that has a name: its text denotes an image. What is refused is told with the place of each fault in the source.
-pub fn compile(alloc: Global, name: &[u8], source: &[u8]) -> Result<Compiled, AllocError>
-    ensures compiled { IfOk result (IsCompiled name.now source.now) }
+pub fn compile(
+    alloc: Global,
+    name: &[u8],
+    source: &[u8],
+    output: Output,
+) -> Result<Compiled, AllocError>
+    ensures compiled { IfOk result (IsCompiled output name.now source.now) }
 {
     let tokens = match Tokens::of(alloc, source) {
         Ok(tokens) => tokens,
@@ -27,10 +40,25 @@ pub fn compile(alloc: Global, name: &[u8], source: &[u8]) -> Result<Compiled, Al
         }
     };
     match translate(alloc, &tokens) {
-        Ok(translation) => Ok(Compiled::Text(translation.into_text())),
+        Ok(translation) => Ok(Compiled::Text(output_of(alloc, &tokens, translation, output)?)),
         Err(refusals) => {
             let told = tell_refusals(alloc, name, source, &refusals)?;
             Ok(Compiled::Refused(told))
         }
+    }
+}
+
+/// What is written of a translation.
+fn output_of(
+    alloc: Global,
+    tokens: &Tokens<'_>,
+    translation: Translation<'_>,
+    output: Output,
+) -> Result<Vec<u8>, AllocError>
+    ensures { IfOk result (λ text. IsOutputOf output tokens.now translation.entry.written text.items) }
+{
+    match output {
+        Output::Text => Ok(translation.into_text()),
+        Output::Map => map_of(alloc, tokens, &translation.written),
     }
 }

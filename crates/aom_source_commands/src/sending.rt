@@ -2,22 +2,23 @@
 ghost use Rattle.aom_commands.specs.Headline.{over};
 ghost use Rattle.aom_source_commands.specs.Sending.{Compiles, SendsText};
 
-use crate::compiling::{Compiled, compile};
+use crate::compiling::{Compiled, Output, compile};
 use aom_commands::{ExitStatus, Fault};
 use aom_transcript::{Sink, write_text};
 use std::alloc::Global;
 
-/// Compiles a source that has a name: its assembly text goes to the output, and what its author is told to the errors. A fault is left to be told.
+/// Compiles a source that has a name: its assembly text, or the map of that, goes to the output, and what its author is told to the errors. A fault is left to be told.
 pub fn compile_source<W: Sink, E: Sink>(
     alloc: Global,
     name: &[u8],
     source: &[u8],
+    output: Output,
     out: &mut W,
     errors: &mut E,
 ) -> Result<ExitStatus, Fault>
-    ensures { Compiles name.now source.now (over W.out W.failed out.old out.new) (over E.out E.failed errors.old errors.new) result }
+    ensures { Compiles output name.now source.now (over W.out W.failed out.old out.new) (over E.out E.failed errors.old errors.new) result }
 {
-    match compile(alloc, name, source) {
+    match compile(alloc, name, source, output) {
         Ok(Compiled::Text(text)) => send(&text, out),
         Ok(Compiled::Refused(told)) => {
             write_text(errors, &told);

@@ -1,4 +1,7 @@
 //! What is told of each line of a source: what was added there, and the methods that begin there with what they cost.
+ghost use Rattle.std.specs.Prelude.{◌≡◌, ◌++◌, OnOk};
+ghost use Rattle.aom_source_commands.specs.Mapping.{added_text, named_text, object_text, reason_text};
+
 use aom_cost_report::FigureWriter;
 use aom_source::{Origin, Written};
 use aom_source_code::{Note, Reason};
@@ -22,10 +25,7 @@ impl<'a> Told<'a> {
     /// Writes it as words.
     pub fn write(&self, text: &mut FigureWriter) -> Result<(), AllocError> {
         match *self {
-            Told::Added(reason, name) => {
-                text.words(reason_words(reason).as_bytes())?;
-                text.words(object_words(reason, name))
-            }
+            Told::Added(reason, name) => write_added(text, reason, name),
             Told::Method {
                 name,
                 price,
@@ -42,29 +42,50 @@ impl<'a> Told<'a> {
     }
 }
 
+/// Writes why an instruction was added.
+pub fn write_added(text: &mut FigureWriter, reason: Reason, name: &[u8]) -> Result<(), AllocError>
+    ensures { OnOk result (text.new ≡ text.old ++ added_text reason name.now) }
+{
+    text.words(reason_words(reason))?;
+    text.words(object_words(reason, name))
+}
+
 /// What is done for a reason, before the name of what it is done to.
-fn reason_words(reason: Reason) -> &'static str {
+fn reason_words(reason: Reason) -> &'static [u8]
+    ensures { result.now ≡ reason_text reason }
+{
     match reason {
-        Reason::Written => "",
-        Reason::Guards => "guards ",
-        Reason::Unguards => "unguards ",
-        Reason::Deletes => "deletes ",
-        Reason::DeletesOld => "deletes the old ",
-        Reason::Empties => "empties ",
-        Reason::RunsDeferred => "runs what was deferred",
-        Reason::Completes => "completes the request",
-        Reason::Cancels => "cancels the request",
-        Reason::Widens => "counts as ",
+        Reason::Written => b"",
+        Reason::Guards => b"guards ",
+        Reason::Unguards => b"unguards ",
+        Reason::Deletes => b"deletes ",
+        Reason::DeletesOld => b"deletes the old ",
+        Reason::Empties => b"empties ",
+        Reason::RunsDeferred => b"runs what was deferred",
+        Reason::Completes => b"completes the request",
+        Reason::Cancels => b"cancels the request",
+        Reason::Widens => b"counts as ",
     }
 }
 
-/// What it is done to: an object without a name is one that was just made.
-fn object_words(reason: Reason, name: &[u8]) -> &[u8] {
+/// What it is done to, for a reason that is about an object.
+fn object_words(reason: Reason, name: &[u8]) -> &[u8]
+    ensures { result.now ≡ object_text reason name.now }
+{
     match reason {
         Reason::RunsDeferred | Reason::Completes | Reason::Cancels => b"",
-        _ if name.is_empty() => b"a new object",
-        _ => name,
+        _ => named_words(name),
     }
+}
+
+/// The name of an object. One without a name was just made.
+fn named_words(name: &[u8]) -> &[u8]
+    ensures { result.now ≡ named_text name.now }
+{
+    if name.is_empty() {
+        return b"a new object";
+    }
+    name
 }
 
 /// What is told of each line, from the first on.
@@ -82,7 +103,7 @@ pub fn told_of<'a>(
         };
         if let Some(name) = method_name(line) {
             let price = prices.get(method).copied().unwrap_or(0);
-            let leaves = has_word(line, b"leaves");
+            let leaves = is_leaving(line);
             add(
                 &mut told,
                 tokens,
@@ -146,10 +167,16 @@ fn method_name(line: &[u8]) -> Option<&[u8]> {
     }
 }
 
-fn has_word(line: &[u8], word: &[u8]) -> bool {
-    for found in line.split(|byte| *byte == b' ') {
-        if found == word {
-            return true;
+/// Whether the head of a method says that it leaves: behind its name and its role there are at most the names of its class and of what it overrides.
+fn is_leaving(head: &[u8]) -> bool {
+    let mut is_name = false;
+    for word in head.split(|byte| *byte == b' ').skip(3) {
+        if is_name {
+            is_name = false;
+        } else if word == b"of" || word == b"over" {
+            is_name = true;
+        } else {
+            return word == b"leaves";
         }
     }
     false
