@@ -1,5 +1,5 @@
 -- Instructions that were added, and names of registers.
-use Rattle.std.specs.Prelude.{List, [], ◌∷◌, ◌++◌, ℕ, ◌≡◌}
+use Rattle.std.specs.Prelude.{List, [], ◌∷◌, ◌++◌, ℕ, ◌≡◌, max}
 use Rattle.aom_source_code.specs.declared.code.NamedRegister.{NamedRegister}
 use Rattle.aom_source_code.specs.declared.line.Line.{Line}
 use Rattle.aom_source_code.specs.declared.operation.Operation.{Operation}
@@ -19,8 +19,8 @@ pub record EndsWith (lines : List Line) (operation : Operation) (token : ℕ) : 
 abbrev pub name_of : (from to : ℕ) → Local → NamedRegister
 name_of from to local = record { name = local.name; register = local.register; from = from; to = to }
 
--- the names that a block's locals give to their registers
+-- the names that a block's locals give to their registers: from where they are declared, or later
 abbrev pub names_of : (from to : ℕ) → List Bound → List NamedRegister
 names_of from to [] = []
-names_of from to (bounds.Local local ∷ rest) = name_of from to local ∷ names_of from to rest
+names_of from to (bounds.Local local declared ∷ rest) = name_of (max from declared) to local ∷ names_of from to rest
 names_of from to (bounds.Deferred item ∷ rest) = names_of from to rest

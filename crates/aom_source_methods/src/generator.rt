@@ -25,7 +25,8 @@ pub struct Local<'a> {
 /// What a block has brought forth.
 #[derive(Clone, Copy)]
 pub enum Bound<'a> {
-    Local(Local<'a>),
+    /// A parameter or local, and the instruction before which it is declared.
+    Local(Local<'a>, usize),
     /// What a `defer` has put on the cleanup stack.
     Deferred(usize),
 }
@@ -244,7 +245,7 @@ impl<'s, 't, 'a> Generator<'s, 't, 'a> {
     /// The parameter or local of a name.
     pub fn local(&self, name: &[u8]) -> Option<Local<'a>> {
         for back in 0..self.bound.len() {
-            if let Bound::Local(local) = self.bound[self.bound.len() - 1 - back] {
+            if let Bound::Local(local, _) = self.bound[self.bound.len() - 1 - back] {
                 if local.name == name {
                     return Some(local);
                 }

@@ -247,7 +247,8 @@ impl<'s, 't, 'a> Generator<'s, 't, 'a> {
             is_done = copy.push(*it).is_ok() && is_done;
         }
         if let Some(local) = more {
-            is_done = copy.push(Bound::Local(local)).is_ok() && is_done;
+            let bound = Bound::Local(local, self.code.lines.len());
+            is_done = copy.push(bound).is_ok() && is_done;
         }
         self.want_memory(is_done);
         copy

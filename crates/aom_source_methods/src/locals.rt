@@ -61,14 +61,14 @@ impl<'s, 't, 'a> Generator<'s, 't, 'a> {
     /// Forgets what was brought forth from a place on.
     pub fn forget_bound(&mut self, begin: usize) {
         for at in begin..self.bound.len() {
-            if let Some(Bound::Local(local)) = self.bound.get(at) {
+            if let Some(Bound::Local(local, _)) = self.bound.get(at) {
                 let id = local.id;
                 self.forget(id);
             }
         }
     }
 
-    /// Each local that a block has brought forth is the name of its register, from the block's first instruction to here.
+    /// Each local that a block has brought forth is the name of its register, from where it is declared, if that is in the block, to here.
     pub fn name_registers(&mut self, scope: Scope)
         ensures { self.new.lacking ≡ None → self.new.code.names.items ≡ self.old.code.names.items ++ names_of scope.from (length self.old.code.lines.items) (drop scope.begin self.old.bound.items) }
     {
@@ -85,7 +85,8 @@ impl<'s, 't, 'a> Generator<'s, 't, 'a> {
         if is_taken {
             return Err(Fault::at(FaultKind::DoubleName, local.token).about(local.name));
         }
-        self.push_bound(Bound::Local(local));
+        let declared = self.code.lines.len();
+        self.push_bound(Bound::Local(local, declared));
         Ok(())
     }
 
@@ -102,7 +103,7 @@ impl<'s, 't, 'a> Generator<'s, 't, 'a> {
         };
         let (begin, mut top) = (scope.begin, scope.top);
         for at in begin..self.bound.len() {
-            if let Bound::Local(local) = self.bound[at] {
+            if let Bound::Local(local, _) = self.bound[at] {
                 top = top.max(local.register.saturating_add(1));
             }
         }
@@ -172,14 +173,14 @@ impl<'s, 't, 'a> Generator<'s, 't, 'a> {
     }
 }
 
-/// Each local among what was brought forth is the name of its register, from an instruction to here, if there is memory for that.
+/// Each local among what was brought forth is the name of its register, from an instruction or where it is declared to here, if there is memory for that.
 fn name_locals<'a>(code: &mut Code<'a>, bound: &[Bound<'a>], from: usize) -> bool
     ensures { result ≡ true → code.new.names.items ≡ code.old.names.items ++ names_of from (length code.old.lines.items) bound.now }
 {
     let mut is_done = true;
     for found in bound {
-        if let Bound::Local(local) = *found {
-            if !name_register(code, local, from) {
+        if let Bound::Local(local, declared) = *found {
+            if !name_register(code, local, from.max(declared)) {
                 is_done = false;
             }
         }

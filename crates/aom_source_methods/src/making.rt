@@ -340,7 +340,7 @@ impl<'s, 't, 'a> Generator<'s, 't, 'a> {
     fn parameter_owners(&self) -> Result<Vec<(Local<'a>, usize)>, Fault<'a>> {
         let mut owners: Vec<(Local<'a>, usize)> = Vec::new(self.alloc);
         for bound in &self.bound {
-            if let Bound::Local(local) = bound {
+            if let Bound::Local(local, _) = bound {
                 if local.kind.thing().is_some() {
                     owners.push((*local, local.register))?;
                 }

@@ -1,6 +1,6 @@
 //! One method, whole.
 use crate::generator::{
-    After, Bound, Deferred, Generator, Local, Region, none, one, register, two,
+    After, Bound, Deferred, Generator, Local, Region, Scope, none, one, register, two,
 };
 use crate::summary::{Helpers, Summaries, Summary};
 use aom_source_code::{Code, Note, Operand, Operation, Reason};
@@ -189,7 +189,7 @@ impl<'s, 't, 'a> Generator<'s, 't, 'a> {
         match body {
             Body::Accepts(class) | Body::Makes(class) => self.make_and_return(class),
             Body::Widens(_) => {
-                let Some(Bound::Local(local)) = self.bound.first().copied() else {
+                let Some(Bound::Local(local, _)) = self.bound.first().copied() else {
                     return Err(Fault::internal());
                 };
                 self.return_owner(local, self.token)
@@ -406,19 +406,28 @@ impl<'s, 't, 'a> Generator<'s, 't, 'a> {
         self.top = top;
         self.item = item;
         self.state = None;
+        let from = self.code.lines.len();
         self.place(label, None)?;
         self.settle(token)?;
         self.open();
-        if let Some(code) = code {
-            self.fail(code, self.source.token(begin))?;
-            return self.shut(token);
+        match code {
+            Some(code) => {
+                self.fail(code, self.source.token(begin))?;
+                self.shut(token)?;
+            }
+            None => {
+                let after = After::Deferred(token);
+                self.push_region(Region {
+                    at: begin,
+                    end,
+                    after,
+                });
+                self.walk()?;
+            }
         }
-        self.push_region(Region {
-            at: begin,
-            end,
-            after: After::Deferred(token),
-        });
-        self.walk()
+        let begin = 0;
+        self.name_registers(Scope { begin, top, from });
+        Ok(())
     }
 }
 

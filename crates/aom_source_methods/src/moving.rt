@@ -206,11 +206,11 @@ impl<'s, 't, 'a> Generator<'s, 't, 'a> {
     ) -> Result<(), Fault<'a>> {
         match bound {
             Bound::Deferred(item) => self.run_deferred(item, token),
-            Bound::Local(local) if kept == Some(local.id) => self.unguard(local.id, token),
-            Bound::Local(local) if local.kind.thing().is_some() => {
+            Bound::Local(local, _) if kept == Some(local.id) => self.unguard(local.id, token),
+            Bound::Local(local, _) if local.kind.thing().is_some() => {
                 self.delete(local, token, Note::added(Reason::Deletes, local.name))
             }
-            Bound::Local(_) => Ok(()),
+            Bound::Local(..) => Ok(()),
         }
     }
 

@@ -128,7 +128,7 @@ impl<'s, 't, 'a> Generator<'s, 't, 'a> {
     pub fn leave_with(&mut self, code: usize, token: u32) -> Result<(), Fault<'a>> {
         let count = self.bound.len();
         for back in 0..count {
-            if let Some(Bound::Local(local)) = self.bound.get(count - 1 - back) {
+            if let Some(Bound::Local(local, _)) = self.bound.get(count - 1 - back) {
                 let local = *local;
                 let owner = self.owner(local.id);
                 if local.kind.thing().is_none() || owner.is_guarded {
