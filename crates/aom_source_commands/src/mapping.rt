@@ -11,7 +11,11 @@ use std::alloc::{AllocError, Global};
 
 /// A row for each line of the text, `LINE:COLUMN` in the source and why the line was added, then one for each name of a register, `rN NAME FIRST-LAST` by the
 /// lines of the text, all of which count from 1.
-pub fn map_of(alloc: Global, tokens: &Tokens<'_>, written: &Written<'_>) -> Result<Vec<u8>, AllocError>
+pub fn map_of(
+    alloc: Global,
+    tokens: &Tokens<'_>,
+    written: &Written<'_>,
+) -> Result<Vec<u8>, AllocError>
     ensures { IfOk result (λ text. text.items ≡ map_text tokens.now written.now.origins.items written.now.names.items) }
 {
     let mut text = FigureWriter::new(alloc);
@@ -25,7 +29,11 @@ pub fn map_of(alloc: Global, tokens: &Tokens<'_>, written: &Written<'_>) -> Resu
 }
 
 /// Writes the row of a line.
-fn write_line(text: &mut FigureWriter, tokens: &Tokens<'_>, origin: Origin<'_>) -> Result<(), AllocError>
+fn write_line(
+    text: &mut FigureWriter,
+    tokens: &Tokens<'_>,
+    origin: Origin<'_>,
+) -> Result<(), AllocError>
     ensures { OnOk result (text.new ≡ text.old ++ line_row tokens.now origin.entry) }
 {
     let place = tokens.get(origin.token as usize).place;

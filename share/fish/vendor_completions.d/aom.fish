@@ -92,6 +92,7 @@ complete -c aom -n '__aom_at dot 0; and not __fish_contains_opt asm; and not __f
 complete -c aom -n '__aom_at dot 0; and __fish_contains_opt asm' -k -a '(__fish_complete_suffix .aom)' -d 'The file of an image; with --asm of an assembly text, with --source of a source'
 complete -c aom -n '__aom_at dot 0; and __fish_contains_opt source' -k -a '(__fish_complete_suffix .ao)' -d 'The file of an image; with --asm of an assembly text, with --source of a source'
 complete -c aom -n __fish_use_subcommand -a compile -d 'Compiles a source: writes it as an assembly text to standard output'
+complete -c aom -n '__fish_seen_subcommand_from compile' -l map -d 'Writes where each line comes from, and the names of registers, in place of the text'
 complete -c aom -n '__aom_at compile 0' -k -a '(__fish_complete_suffix .ao)' -d 'The file of a source'
 complete -c aom -n __fish_use_subcommand -a show -d 'Shows a source with what the compiler has added to each line'
 complete -c aom -n '__aom_at show 0' -k -a '(__fish_complete_suffix .ao)' -d 'The file of a source'
