@@ -16,7 +16,7 @@ use aom_diagnostic_commands::{Program, Telling, asm, check, debug, dot, explore,
 use aom_fault_injection::{Part, Tries};
 use aom_host::{Input, Output, ReadError, read_file};
 use aom_natives::{Counter, Delay, Line, Native, NativeKind};
-use aom_source_commands::{Output, compile_source, script_of_source, show_source};
+use aom_source_commands::{Emit, compile_source, script_of_source, show_source};
 use aom_transcript::{Sink, write_text};
 use program::{ProgramFiles, Unready, compiled};
 use std::env;
@@ -199,8 +199,8 @@ fn execute<'a, W: Sink, E: Sink>(
         }
         Words::Compile { source, map } => {
             let text = read_file(rt, source)?;
-            let output = if *map { Output::Map } else { Output::Text };
-            match compile_source(alloc, source.as_bytes(), &text, output, out, errors) {
+            let emit = if *map { Emit::Map } else { Emit::Text };
+            match compile_source(alloc, source.as_bytes(), &text, emit, out, errors) {
                 Ok(status) => Ok(status),
                 Err(fault) => Ok(telling.report(alloc, &fault, b"", errors)),
             }

@@ -7,27 +7,27 @@ use Rattle.aom_source.specs.declared.writing.Written.{Written}
 use Rattle.aom_source_tokens.specs.declared.tokens.Tokens.{Tokens}
 use Rattle.aom_source_commands.specs.declared.compiling.Compiled.{Compiled}
 use Rattle.aom_source_commands.specs.declared.compiling.Compiled.TheVariants.{Text, Refused}
-use Rattle.aom_source_commands.specs.declared.compiling.Output.{Output}
-use Rattle.aom_source_commands.specs.declared.compiling.Output.TheVariants as outputs
+use Rattle.aom_source_commands.specs.declared.compiling.Emit.{Emit}
+use Rattle.aom_source_commands.specs.declared.compiling.Emit.TheVariants as emits
 use Rattle.aom_source_commands.specs.Mapping.{map_text}
 use Rattle.aom_source_commands.specs.Telling.{TellsPlace}
 
 -- the text of what was written, or its map
-abbrev pub IsOutputOf : Output → Tokens → Written → List ℕ → Type 0
-IsOutputOf outputs.Text tokens written text = text ≡ written.text.items
-IsOutputOf outputs.Map tokens written text = text ≡ map_text tokens written.origins.items written.names.items
+abbrev pub IsOutputOf : Emit → Tokens → Written → List ℕ → Type 0
+IsOutputOf emits.Text tokens written text = text ≡ written.text.items
+IsOutputOf emits.Map tokens written text = text ≡ map_text tokens written.origins.items written.names.items
 
 -- it is that of a text that denotes an image, each of whose lines has a token of the source
-pub record IsOutput (output : Output) (source text : List ℕ) : Type 0 where
+pub record IsOutput (emit : Emit) (source text : List ℕ) : Type 0 where
   pub tokens : Tokens
   pub of_source : tokens.bytes ≡ source
   pub written : Written
   pub image : Image
   pub denotes : denoted written.text.items ≡ Ok image
   pub lines : line_count written.text.items ≡ length written.origins.items
-  pub is : IsOutputOf output tokens written text
+  pub is : IsOutputOf emit tokens written text
 
 -- what was asked for; what is told of the source begins with a place of it
-abbrev pub IsCompiled : Output → (name source : List ℕ) → Compiled → Type 0
-IsCompiled output name source (Text t) = IsOutput output source t.items
-IsCompiled output name source (Refused t) = TellsPlace name source t.items
+abbrev pub IsCompiled : Emit → (name source : List ℕ) → Compiled → Type 0
+IsCompiled emit name source (Text t) = IsOutput emit source t.items
+IsCompiled emit name source (Refused t) = TellsPlace name source t.items

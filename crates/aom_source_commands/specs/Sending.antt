@@ -3,7 +3,7 @@ use Rattle.std.specs.Prelude.{List, ℕ, ◌≡◌, Result, Ok, Err, true}
 use Rattle.aom_commands.specs.Headline.{Sent, Says, IsSilent}
 use Rattle.aom_source_commands.specs.Compiling.{IsOutput}
 use Rattle.aom_source_commands.specs.Telling.{TellsPlace}
-use Rattle.aom_source_commands.specs.declared.compiling.Output.{Output}
+use Rattle.aom_source_commands.specs.declared.compiling.Emit.{Emit}
 use Rattle.aom_commands.specs.declared.status.ExitStatus.{ExitStatus}
 use Rattle.aom_commands.specs.declared.status.ExitStatus.TheVariants as statuses
 use Rattle.aom_commands.specs.declared.faults.Fault.{Fault}
@@ -16,9 +16,9 @@ SendsText text out (Err faults.Write) = out.failed ≡ true
 SendsText text out answer = ⊥
 
 -- what was asked for went out; or what is told of the source begins with a place of it, and nothing went out; or the output or the memory has failed
-abbrev pub Compiles : Output → (name source : List ℕ) → Sent → Sent → Result ExitStatus Fault → Type 0
-Compiles output name source out errors (Ok statuses.Done) = ((text : List ℕ) × IsOutput output source text × Says text out) × IsSilent errors
-Compiles output name source out errors (Ok statuses.ImageRefused) = IsSilent out × ((told : List ℕ) × TellsPlace name source told × Says told errors)
-Compiles output name source out errors (Err faults.Write) = (out.failed ≡ true) × IsSilent errors
-Compiles output name source out errors (Err faults.Memory) = IsSilent out × IsSilent errors
-Compiles output name source out errors answer = ⊥
+abbrev pub Compiles : Emit → (name source : List ℕ) → Sent → Sent → Result ExitStatus Fault → Type 0
+Compiles emit name source out errors (Ok statuses.Done) = ((text : List ℕ) × IsOutput emit source text × Says text out) × IsSilent errors
+Compiles emit name source out errors (Ok statuses.ImageRefused) = IsSilent out × ((told : List ℕ) × TellsPlace name source told × Says told errors)
+Compiles emit name source out errors (Err faults.Write) = (out.failed ≡ true) × IsSilent errors
+Compiles emit name source out errors (Err faults.Memory) = IsSilent out × IsSilent errors
+Compiles emit name source out errors answer = ⊥

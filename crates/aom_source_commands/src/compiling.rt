@@ -10,7 +10,7 @@ use std::alloc::{AllocError, Global};
 
 /// What is written of a source that is compiled: its assembly text, or where the lines of that come from and the names of its registers.
 #[derive(Clone, Copy, PartialEq, Eq, Debug)]
-pub enum Output {
+pub enum Emit {
     Text,
     Map,
 }
@@ -27,9 +27,9 @@ pub fn compile(
     alloc: Global,
     name: &[u8],
     source: &[u8],
-    output: Output,
+    emit: Emit,
 ) -> Result<Compiled, AllocError>
-    ensures compiled { IfOk result (IsCompiled output name.now source.now) }
+    ensures compiled { IfOk result (IsCompiled emit name.now source.now) }
 {
     let tokens = match Tokens::of(alloc, source) {
         Ok(tokens) => tokens,
@@ -40,7 +40,7 @@ pub fn compile(
         }
     };
     match translate(alloc, &tokens) {
-        Ok(translation) => Ok(Compiled::Text(output_of(alloc, &tokens, translation, output)?)),
+        Ok(translation) => Ok(Compiled::Text(output_of(alloc, &tokens, translation, emit)?)),
         Err(refusals) => {
             let told = tell_refusals(alloc, name, source, &refusals)?;
             Ok(Compiled::Refused(told))
@@ -53,12 +53,12 @@ fn output_of(
     alloc: Global,
     tokens: &Tokens<'_>,
     translation: Translation<'_>,
-    output: Output,
+    emit: Emit,
 ) -> Result<Vec<u8>, AllocError>
-    ensures { IfOk result (λ text. IsOutputOf output tokens.now translation.entry.written text.items) }
+    ensures { IfOk result (λ text. IsOutputOf emit tokens.now translation.entry.written text.items) }
 {
-    match output {
-        Output::Text => Ok(translation.into_text()),
-        Output::Map => map_of(alloc, tokens, &translation.written),
+    match emit {
+        Emit::Text => Ok(translation.into_text()),
+        Emit::Map => map_of(alloc, tokens, &translation.written),
     }
 }

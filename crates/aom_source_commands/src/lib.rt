@@ -15,7 +15,7 @@ mod telling;
 mod told;
 mod words;
 
-pub use compiling::{Compiled, Output, compile};
+pub use compiling::{Compiled, Emit, compile};
 pub use judging::accept_source;
 pub use scripts::script_of_source;
 pub use sending::compile_source;

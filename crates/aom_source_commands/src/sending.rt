@@ -2,7 +2,7 @@
 ghost use Rattle.aom_commands.specs.Headline.{over};
 ghost use Rattle.aom_source_commands.specs.Sending.{Compiles, SendsText};
 
-use crate::compiling::{Compiled, Output, compile};
+use crate::compiling::{Compiled, Emit, compile};
 use aom_commands::{ExitStatus, Fault};
 use aom_transcript::{Sink, write_text};
 use std::alloc::Global;
@@ -12,13 +12,13 @@ pub fn compile_source<W: Sink, E: Sink>(
     alloc: Global,
     name: &[u8],
     source: &[u8],
-    output: Output,
+    emit: Emit,
     out: &mut W,
     errors: &mut E,
 ) -> Result<ExitStatus, Fault>
-    ensures { Compiles output name.now source.now (over W.out W.failed out.old out.new) (over E.out E.failed errors.old errors.new) result }
+    ensures { Compiles emit name.now source.now (over W.out W.failed out.old out.new) (over E.out E.failed errors.old errors.new) result }
 {
-    match compile(alloc, name, source, output) {
+    match compile(alloc, name, source, emit) {
         Ok(Compiled::Text(text)) => send(&text, out),
         Ok(Compiled::Refused(told)) => {
             write_text(errors, &told);

@@ -171,12 +171,10 @@ fn method_name(line: &[u8]) -> Option<&[u8]> {
 fn is_leaving(head: &[u8]) -> bool {
     let mut is_name = false;
     for word in head.split(|byte| *byte == b' ').skip(3) {
-        if is_name {
-            is_name = false;
-        } else if word == b"of" || word == b"over" {
-            is_name = true;
-        } else {
-            return word == b"leaves";
+        match word {
+            _ if is_name => is_name = false,
+            b"of" | b"over" => is_name = true,
+            _ => return word == b"leaves".as_slice(),
         }
     }
     false
