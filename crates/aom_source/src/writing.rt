@@ -83,6 +83,7 @@ impl<'a> Writing<'a> {
     fn add_names(&mut self, names: &[NamedRegister<'a>]) -> Result<(), Fault<'a>>
         ensures names { OnOk result (Names self.old self.new (map (at_line (length self.old.origins.items)) names.now)) }
         ensures origins { self.new.origins ≡ self.old.origins }
+        ensures lacks { self.new.lacks ≡ false → self.old.lacks ≡ false }
     {
         for named in names {
             let named = named_at(self.origins.len(), *named)?;
