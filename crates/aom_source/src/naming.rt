@@ -48,7 +48,7 @@ fn is_new<'a>(earlier: &[NamedRegister<'a>], named: NamedRegister<'a>) -> bool {
 
 fn write_name(text: &mut Text, is_first: bool, letter: &[u8], number: usize, name: &[u8]) {
     text.words(if is_first { b" # " } else { b", " });
-    text.count(letter, number as i64);
+    text.count(letter, i64::try_from(number).unwrap_or(i64::MAX));
     text.words(b" ");
     text.words(name);
 }

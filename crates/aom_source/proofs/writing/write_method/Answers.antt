@@ -3,6 +3,7 @@ use Rattle.std.proofs.Common.{◌≡◌, ◌∙◌, ◌<◌, [], ◌∷◌, ◌+
 use Rattle.std.proofs.lemmas.List.{get_or-map}
 use Rattle.aom_source.specs.Map.{Adds, line_tokens}
 use Rattle.aom_source.proofs.Lines.{method_is, then}
+use Rattle.aom_source.proofs.Names.{lines_so_far, method_named, then_none}
 use Rattle.aom_source.proofs.writing.write_method.Goals as goal
 
 pub returns : goal.returns
@@ -18,6 +19,16 @@ returns c =
     let code : get_or c.args.parts.codes.now.items id None ≡ Some w.code = search rules in
     let front = w.method.now.token ∷ [] in
     let body = line_tokens w.code in
-    let headed = then c.args.written.now c.end_line.new.self c.write_code.new.written front body c.end_line.ensures c.in_ok-write_code.ensures in
-    let ended = then c.args.written.now c.write_code.new.written c.end_line-2.new.self (front ++ body) (w.method.now.end_token ∷ []) headed c.end_line-2.ensures in
-    subst (Adds c.args.written.now c.end_line-2.new.self) (method_is w.method.now.token w.method.now.end_token _ _ w.code _ token code end) ended
+    let first = c.end_line.ensures in
+    let named = c.add_names.ensures in
+    let begun = then_none c.args.written.now c.end_line.new.self c.add_names.new.self front first.origins named.origins named.lacks in
+    let headed = then c.args.written.now c.add_names.new.self c.write_code.new.written front body begun c.in_ok-write_code.ensures.origins in
+    let ended = then c.args.written.now c.write_code.new.written c.end_line-2.new.self (front ++ body) (w.method.now.end_token ∷ []) headed c.end_line-2.ensures.origins in
+    record {
+      origins = subst (Adds c.args.written.now c.end_line-2.new.self) (method_is w.method.now.token w.method.now.end_token _ _ w.code _ token code end) ended;
+      names = λ lacks.
+          let coded = (c.in_ok-write_code.ensures.origins (c.end_line-2.ensures.origins lacks).0).0 in
+          let line = lines_so_far c.args.written.now c.end_line.new.self front first.origins (named.lacks coded) in
+          method_named c.args.written.now c.end_line.new.self c.add_names.new.self c.write_code.new.written c.end_line-2.new.self _ c.args.id w.code _ line first.names
+          (c.in_ok-add_names.ensures.names coded) (search rules) c.write_code.ensures.names c.end_line-2.ensures.names code;
+    }
