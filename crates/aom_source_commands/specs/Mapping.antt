@@ -1,7 +1,5 @@
 -- The map of an assembly text, as rows.
-use Rattle.std.specs.Prelude.{List, [], ◌∷◌, ◌++◌, ℕ, ◌+◌, ◌≡◌, nat_le, if◌then◌else◌, codes, decimal, flat_map, length, Ok}
-use Rattle.aom_image.specs.Image.{Image}
-use Rattle.aom_asm.specs.Denoted.{denoted}
+use Rattle.std.specs.Prelude.{List, [], ◌∷◌, ◌++◌, ℕ, ◌+◌, nat_le, if◌then◌else◌, codes, decimal, flat_map}
 use Rattle.aom_source_code.specs.declared.code.NamedRegister.{NamedRegister}
 use Rattle.aom_source_code.specs.declared.line.Reason.{Reason}
 use Rattle.aom_source_code.specs.declared.line.Reason.TheVariants.{Written, Guards, Unguards, Deletes, DeletesOld, Empties, RunsDeferred, Completes, Cancels, Widens}

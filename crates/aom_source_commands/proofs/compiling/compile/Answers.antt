@@ -1,7 +1,18 @@
--- The text of a translation denotes its image.
-use Rattle.std.proofs.Common.{◌∙◌, ap}
-use Rattle.aom_asm.specs.Denoted.{denoted}
+-- What is asked for is of a text that denotes its image.
+use Rattle.std.proofs.Common.{rules}
 use Rattle.aom_source_commands.proofs.compiling.compile.Goals as goal
 
 pub returns-in-Ok-translate : goal.returns-in-Ok-translate
-returns-in-Ok-translate c = record { compiled = (c.in-Ok-translate.translation.image, ap (λ t. denoted t.items) c.into_text.ensures ∙ c.in-Ok-translate.ensures.image) }
+returns-in-Ok-translate c =
+    let made = c.in-Ok-translate.ensures in
+    record {
+      compiled = record {
+        tokens = c.in-Ok.tokens;
+        of_source = search rules;
+        written = c.in-Ok-translate.translation.written;
+        image = c.in-Ok-translate.translation.image;
+        denotes = made.image;
+        lines = made.lines;
+        is = c.in_ok-output_of-in-Ok-translate.ensures;
+      };
+    }
