@@ -11,4 +11,4 @@ loop-refusal-init g c = none refl
 pub loop-refusal-preserved : goal.loop-refusal-preserved
 loop-refusal-preserved g c =
     told_next (RefusalToldSo c.args.telling c.args.program.now.image c.args.program.now.text) c.args.refusals.now c.loop-refusal.refusal-index _ _ _ _ _ _
-    c.loop-refusal-test.true c.loop-refusal.invariant c.tell_refusal.ensures
+    c.loop-refusal-test.true c.loop-refusal.invariant (rw c.refusal-item.is at c.tell_refusal.ensures)
