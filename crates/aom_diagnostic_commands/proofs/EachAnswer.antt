@@ -6,7 +6,7 @@ use Rattle.std.proofs.lemmas.List.{length-append}
 use Rattle.aom_image.specs.Image.{Image}
 use Rattle.aom_roles.specs.Tables.{at}
 use Rattle.aom_verify.specs.declared.refusal.Refusal.{Refusal}
-use Rattle.aom_commands.specs.Headline.{IsSilent, Sent}
+use Rattle.aom_commands.specs.Headline.{Sent}
 use Rattle.aom_diagnostic_commands.specs.EachMethod.{AnswersMethod, EachTold, RefusesFirst, somes}
 use Rattle.aom_diagnostic_commands.specs.EachMethod.EachTold.{next, none}
 

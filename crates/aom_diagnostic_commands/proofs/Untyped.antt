@@ -1,15 +1,14 @@
 -- A method has no typing where a state that arrives at one of its places is refused there: a typing says no more than each that arrives.
-use Rattle.std.proofs.Common.{◌≡◌, ◌∙◌, ℕ, List, [], ◌∷◌, Result, Ok, Err, Some, None, inl, inr, refl, sym}
+use Rattle.std.proofs.Common.{◌≡◌, ◌∙◌, ℕ, List, [], ◌∷◌, Err, inl, inr, sym}
 use Rattle.std.proofs.lemmas.Option.{same_Some}
 use Rattle.aom_image.specs.Image.{Image}
 use Rattle.aom_instructions.specs.declared.instr.Instr.{Instr}
-use Rattle.aom_roles.specs.Tables.{at}
 use Rattle.aom_roles.specs.Tests.{AllTrue}
 use Rattle.aom_abstract_state.specs.AbstractState.{AbstractState}
 use Rattle.aom_abstract_state.specs.Arguments.{entry_shape}
 use Rattle.aom_abstract_state.specs.Needs.{Flow, Need, judged}
 use Rattle.aom_abstract_state.specs.declared.why.Reason.{Reason}
-use Rattle.aom_typing_rules.specs.Rules.{flows, rule, rule_needs}
+use Rattle.aom_typing_rules.specs.Rules.{flows, rule_needs}
 use Rattle.aom_static_bounds.specs.Shapes.{AllMet, Applies, HasTyping, IsMethodTyped, Meets, Shapes}
 use Rattle.aom_verify.specs.Arrivals.{Arrives, FailsFor, IsOneOf, IsRefused, StopsAt}
 use Rattle.aom_verify.specs.Arrivals.Arrives.{begins, led, met}
