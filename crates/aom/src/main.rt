@@ -12,7 +12,7 @@ ghost use Rattle.aom_commands.specs.Beside.{AreNew};
 
 use aom_command_line::{FileKind, RunWords, TriesWords, Words, WordsFault, read_words};
 use aom_commands::{ExitStatus, Fault, Translation, assemble_bytes, translate_bytes};
-use aom_diagnostic_commands::{Program, Telling, asm, check, debug, dot, explore, run};
+use aom_diagnostic_commands::{Program, Telling, asm, check, check_all, debug, dot, explore, run};
 use aom_fault_injection::{Part, Tries};
 use aom_host::{Input, Output, ReadError, read_file};
 use aom_natives::{Counter, Delay, Line, Native, NativeKind};
@@ -174,11 +174,17 @@ fn execute<'a, W: Sink, E: Sink>(
             image,
             kind,
             prices,
+            all,
             text,
             ..
         } => {
             let files = ProgramFiles::read(rt, image, *kind, text)?;
-            Ok(check(alloc, files.program(), telling, *prices, out, errors))
+            let program = files.program();
+            Ok(if *all {
+                check_all(alloc, program, telling, *prices, out, errors)
+            } else {
+                check(alloc, program, telling, *prices, out, errors)
+            })
         }
         Words::Run {
             run,

@@ -79,6 +79,10 @@ explain_rule = flag_rule (codes "explain")
 abbrev pub lines_rule : Rule
 lines_rule = flag_rule (codes "lines")
 
+-- `--all`
+abbrev pub all_rule : Rule
+all_rule = flag_rule (codes "all")
+
 -- `--kills`
 abbrev pub kills_rule : Rule
 kills_rule = flag_rule (codes "kills")
@@ -127,9 +131,9 @@ native_rule =
 abbrev pub with_program : App → App
 with_program command = with_rule (with_rule (with_rule command asm_rule) source_rule) (file_rule (codes "IMAGE"))
 
--- check [--prices] [--explain] [--lines] [--text TEXT] [--asm] [--source] IMAGE
+-- check [--prices] [--explain] [--lines] [--all] [--text TEXT] [--asm] [--source] IMAGE
 abbrev pub check_form : App
-check_form = with_program (with_rule (with_rule (with_rule (with_rule (new_app (codes "check")) prices_rule) explain_rule) lines_rule) text_rule)
+check_form = with_program (with_rule (with_rule (with_rule (with_rule (with_rule (new_app (codes "check")) prices_rule) explain_rule) lines_rule) all_rule) text_rule)
 
 -- asm [--explain] TEXT
 abbrev pub asm_form : App
@@ -334,10 +338,10 @@ DeclinesTextless id rows faults.Memory = Unit {0}
 -- a command and the words found for it ask this
 abbrev pub Asks : Option (Text × List Row) → Words → Type 0
 Asks None words = ⊥
-Asks (Some met) (Check image kind prices explain lines text) =
+Asks (Some met) (Check image kind prices explain lines all text) =
     (met.0 ≡ codes "check") × (string_bytes image ≡ word_of (codes "IMAGE") met.1) × AsksKind met.1 kind
     × IsFlag (one_of (codes "prices") met.1) prices × IsFlag (one_of (codes "explain") met.1) explain
-    × AsksLines met.1 explain kind lines × AsksText met.1 ((explain || lines) || prices) kind text
+    × AsksLines met.1 explain kind lines × IsFlag (one_of (codes "all") met.1) all × AsksText met.1 ((explain || lines) || prices) kind text
 Asks (Some met) (Run run explain names text) =
     (met.0 ≡ codes "run") × AsksRun met.1 run × IsFlag (one_of (codes "explain") met.1) explain
     × AsksNames met.1 run.kind names × AsksText met.1 (explain || names) run.kind text
@@ -388,7 +392,7 @@ Says kind faults.Memory = Unit {0}
 
 -- what is known of the limit of runs
 abbrev pub KeepsLimit : Words → Type 0
-KeepsLimit (Check image kind prices explain lines text) = Unit {0}
+KeepsLimit (Check image kind prices explain lines all text) = Unit {0}
 KeepsLimit (Run run explain names text) = (1 ≤ run.limit) × (run.limit ≤ 1000000000)
 KeepsLimit (Explore run tries text) = (1 ≤ run.limit) × (run.limit ≤ 1000000000)
 KeepsLimit (Debug run text) = (1 ≤ run.limit) × (run.limit ≤ 1000000000)

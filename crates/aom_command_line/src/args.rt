@@ -1,7 +1,7 @@
 //! The arguments of commands.
 ghost use Rattle.std.specs.Prelude.{◌≡◌, false};
 ghost use Rattle.clap.specs.Words.{rule_of};
-ghost use Rattle.aom_command_line.specs.CommandLine.{asm_rule, deaths_rule, explain_rule, file_rule, flag_rule, from_rule, kills_rule, limit_rule, lines_rule, map_rule, names_rule, native_rule, number_rule, pairs_rule, prices_rule, source_rule, text_rule, to_rule, tries_rule};
+ghost use Rattle.aom_command_line.specs.CommandLine.{all_rule, asm_rule, deaths_rule, explain_rule, file_rule, flag_rule, from_rule, kills_rule, limit_rule, lines_rule, map_rule, names_rule, native_rule, number_rule, pairs_rule, prices_rule, source_rule, text_rule, to_rule, tries_rule};
 
 use clap::builder::ValueParser;
 use clap::{Arg, ArgAction, value_parser};
@@ -126,6 +126,17 @@ pub fn lines_arg<'a>(alloc: Global) -> Arg<'a>
         alloc,
         "lines",
         "Tells a fault in one line with its file and line, as compilers do; needs --asm or --text",
+    )
+}
+
+pub fn all_arg<'a>(alloc: Global) -> Arg<'a>
+    ensures rule { rule_of result ≡ all_rule }
+    ensures own { result.global ≡ false }
+{
+    flag_arg(
+        alloc,
+        "all",
+        "Tells the first fault of each method that is refused, and not of the first alone",
     )
 }
 

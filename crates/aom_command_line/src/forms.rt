@@ -4,8 +4,8 @@ ghost use Rattle.clap.specs.Words.{AddsArg, AddsSubcommand, App, app_of, with_su
 ghost use Rattle.aom_command_line.specs.CommandLine.{HasForm, asm_form, check_form, compile_form, debug_form, dis_form, dot_form, explore_form, form, run_form, show_form, with_files, with_program};
 
 use crate::args::{
-    asm_arg, deaths_arg, explain_arg, file_arg, from_arg, kills_arg, limit_arg, lines_arg, map_arg,
-    names_arg, native_arg, pairs_arg, prices_arg, source_arg, text_arg, to_arg, tries_arg,
+    all_arg, asm_arg, deaths_arg, explain_arg, file_arg, from_arg, kills_arg, limit_arg, lines_arg,
+    map_arg, names_arg, native_arg, pairs_arg, prices_arg, source_arg, text_arg, to_arg, tries_arg,
 };
 use clap::{Arg, Command};
 use std::alloc::{AllocError, Global};
@@ -120,6 +120,7 @@ fn check_command<'a>(alloc: Global) -> Result<Command<'a>, AllocError>
         .arg(prices_arg(alloc));
     let command = with_arg(command, explain_arg(alloc));
     let command = with_arg(command, lines_arg(alloc));
+    let command = with_arg(command, all_arg(alloc));
     let command = with_arg(command, text_arg(alloc));
     with_program(alloc, command)
 }

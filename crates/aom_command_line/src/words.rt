@@ -46,6 +46,8 @@ pub enum Words {
         explain: bool,
         /// Whether a fault is to be told in one line with its place in a text, as compilers do.
         lines: bool,
+        /// Whether the first fault of each method is to be told.
+        all: bool,
         /// The text that the image is of, whose lines are told.
         text: Option<String>,
     },
@@ -235,6 +237,7 @@ fn check_words(alloc: Global, own: &ArgMatches) -> Result<Words, WordsFault>
     let explain = is_set(own, "explain");
     let lines = is_set(own, "lines");
     let prices = is_set(own, "prices");
+    let all = is_set(own, "all");
     let kind = file_kind_of(alloc, own)?;
     fit_lines(alloc, own, explain, kind, lines)?;
     Ok(Words::Check {
@@ -244,6 +247,7 @@ fn check_words(alloc: Global, own: &ArgMatches) -> Result<Words, WordsFault>
         kind,
         explain,
         lines,
+        all,
     })
 }
 

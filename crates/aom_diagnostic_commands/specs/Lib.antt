@@ -8,3 +8,4 @@ pub mod Debugged
 pub mod Unread
 pub mod Tellings
 pub mod Programs
+pub mod EachMethod

@@ -9,12 +9,14 @@ ghost use Rattle.aom_commands.specs.Unreported.{Unreported};
 ghost use Rattle.aom_debug.specs.Answers.{DebugAnswersBy};
 ghost use Rattle.aom_debug.specs.SessionLoop.{IsUnread, reading};
 ghost use Rattle.aom_diagnostic_commands.specs.Debugged.{debug_names};
+ghost use Rattle.aom_diagnostic_commands.specs.EachMethod.{AnswersAll};
 ghost use Rattle.aom_diagnostic_commands.specs.Naming.{line_in};
 ghost use Rattle.aom_diagnostic_commands.specs.Programs.{Answers};
 ghost use Rattle.aom_diagnostic_commands.specs.Tellings.{names_in};
 ghost use Rattle.aom_diagnostic_commands.specs.declared.telling.Telling.TheVariants.{Plain};
 
 use crate::debugging::try_debug_told;
+use crate::each_method::answer_all;
 use crate::naming::{try_check_told, try_draw_told, try_run_told};
 use crate::program::Program;
 use crate::telling::Telling;
@@ -41,6 +43,26 @@ pub fn check<W: Sink, E: Sink>(
         Ok(loaded) => {
             let found = try_check_told(alloc, &loaded, telling, prices, out);
             telling.answer(alloc, found, &loaded, b"", errors)
+        }
+        Err(fault) => telling.refuse(alloc, &fault, program.text(), errors),
+    }
+}
+
+/// Tells whether an image is accepted as `check` does; of one that the verifier refuses it tells the first fault of each method.
+pub fn check_all<W: Sink, E: Sink>(
+    alloc: Global,
+    program: Program<'_>,
+    telling: Telling<'_>,
+    prices: bool,
+    out: &mut W,
+    errors: &mut E,
+) -> ExitStatus
+    ensures { AnswersAll telling.entry program.entry (W.out out.new ≡ W.out out.old) (λ image text. ChecksBy (names_in telling.entry text) prices image (over W.out W.failed out.old out.new)) (over E.out E.failed errors.old errors.new) result }
+{
+    match program.load(alloc) {
+        Ok(loaded) => {
+            let found = try_check_told(alloc, &loaded, telling, prices, out);
+            answer_all(alloc, telling, found, &loaded, errors)
         }
         Err(fault) => telling.refuse(alloc, &fault, program.text(), errors),
     }

@@ -125,7 +125,7 @@ impl<'a> Telling<'a> {
     }
 
     /// Tells a fault of an image or of its script.
-    fn tell<E: Sink>(
+    pub(crate) fn tell<E: Sink>(
         self,
         alloc: Global,
         fault: &Fault,

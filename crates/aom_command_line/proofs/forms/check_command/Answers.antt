@@ -13,6 +13,8 @@ returns c =
     c.explain_arg.ensures.own in
     let lines = next c.lines_arg.result _ _ c.with_arg-command.result c.with_arg-command-2.result c.with_arg-command-2.ensures explain c.lines_arg.ensures.rule
     c.lines_arg.ensures.own in
-    let text = next c.text_arg.result _ _ c.with_arg-command-2.result c.with_arg-command-3.result c.with_arg-command-3.ensures lines c.text_arg.ensures.rule
+    let all = next c.all_arg.result _ _ c.with_arg-command-2.result c.with_arg-command-3.result c.with_arg-command-3.ensures lines c.all_arg.ensures.rule
+    c.all_arg.ensures.own in
+    let text = next c.text_arg.result _ _ c.with_arg-command-3.result c.with_arg-command-4.result c.with_arg-command-4.ensures all c.text_arg.ensures.rule
     c.text_arg.ensures.own in
     c.with_program.ensures _ text
