@@ -141,7 +141,11 @@ class Moves:
             return (own, True) if own else (self.program.functions[it.name], False)
         local = self.local(it.target)
         of = local[1] if local else dict(self.fields())[it.target]
-        return self.program.classes[of.rstrip("?")].find(it.name), False
+        method = self.program.classes[of.rstrip("?")].find(it.name)
+        # the translator does not look at a block to which no way leads
+        if method is None:
+            raise NotRead(f"no method: {it.name}")
+        return method, False
 
     def is_word(self, it):
         if it.kind == "name":
