@@ -138,14 +138,16 @@ class Moves:
             return self.cls.parent.role("construct"), True
         if it.target in (None, "self"):
             own = self.cls.find(it.name) if self.cls else None
-            return (own, True) if own else (self.program.functions[it.name], False)
-        local = self.local(it.target)
-        of = local[1] if local else dict(self.fields())[it.target]
-        method = self.program.classes[of.rstrip("?")].find(it.name)
+            method, is_own = own or self.program.functions.get(it.name), bool(own)
+        else:
+            local = self.local(it.target)
+            of = local[1] if local else dict(self.fields()).get(it.target, "")
+            cls = self.program.classes.get(of.rstrip("?"))
+            method, is_own = cls and cls.find(it.name), False
         # the translator does not look at a block to which no way leads
         if method is None:
             raise NotRead(f"no method: {it.name}")
-        return method, False
+        return method, is_own
 
     def is_word(self, it):
         if it.kind == "name":
