@@ -234,11 +234,13 @@ impl<'s, 't, 'a> Generator<'s, 't, 'a> {
         self.shut(token)?;
         self.item = frame.item;
         self.token = token;
-        let round = self.edge(frame.item, Turn::End);
-        self.end_way(round, token)?;
-        self.place(frame.next, Some(round))?;
+        let end = self.edge(frame.item, Turn::End);
+        self.end_way(end, token)?;
+        self.place(frame.next, Some(end))?;
         let _ = self.loops.pop();
         if self.is_reached() {
+            let round = self.edge(frame.item, Turn::Round);
+            self.end_way(round, token)?;
             self.count(frame, token)?;
             self.compare_rounds(frame, round)?;
         }

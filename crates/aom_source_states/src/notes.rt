@@ -11,8 +11,10 @@ pub enum Turn {
     Else,
     /// Where a trap caught nothing.
     Returned,
-    /// The end of a round.
+    /// The end of a round's block.
     End,
+    /// Where all ways to the end of a round have come together.
+    Round,
     /// Out of a loop.
     Out,
 }
