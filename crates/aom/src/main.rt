@@ -189,7 +189,10 @@ fn execute<'a, W: Sink, E: Sink>(
             let names = *names || run.kind == FileKind::Source;
             run_beside(rt, run, text, Purpose::Run { telling, names }, out, errors)
         }
-        Words::Debug { run, text } => run_beside(rt, run, text, Purpose::Debug, out, errors),
+        Words::Debug { run, text } => {
+            let file = text_name(run, text);
+            run_beside(rt, run, text, Purpose::Debug { file }, out, errors)
+        }
         Words::Explore { run, tries, text } => {
             explore_beside(rt, run, text, tries_of(*tries), out, errors)
         }
@@ -265,13 +268,22 @@ fn script_beside<'a>(
     }
 }
 
+/// The name of the file of a program's text, where there is one that the words name.
+fn text_name<'a>(run: &'a RunWords, text: &'a Option<String>) -> &'a [u8] {
+    match text {
+        Some(name) => name.as_bytes(),
+        None if run.kind == FileKind::Assembly => run.image.as_bytes(),
+        None => b"",
+    }
+}
+
 /// What a program and its natives are for.
 #[derive(Clone, Copy)]
 enum Purpose<'a> {
     /// To run, and to tell a fault so; with the names of the program's text in the transcript, or with numbers.
     Run { telling: Telling<'a>, names: bool },
-    /// To run as the commands say that come from standard input.
-    Debug,
+    /// To run as the commands say that come from standard input; the program's text is in that file.
+    Debug { file: &'a [u8] },
 }
 
 impl<'a> Purpose<'a> {
@@ -295,11 +307,20 @@ impl<'a> Purpose<'a> {
             Purpose::Run { telling, names } => run(
                 alloc, program, telling, names, script, limit, boxes, out, errors,
             ),
-            Purpose::Debug => {
+            Purpose::Debug { file } => {
                 let mut input = Input::new(rt.stdin());
                 let mut out = Output::new(rt.stdout());
                 debug(
-                    alloc, program, script, limit, boxes, &mut input, MAX_READS, &mut out, errors,
+                    alloc,
+                    program,
+                    file,
+                    script,
+                    limit,
+                    boxes,
+                    &mut input,
+                    MAX_READS,
+                    &mut out,
+                    errors,
                 )
             }
         }
