@@ -14,7 +14,7 @@ use aom_command_line::{FileKind, RunWords, TriesWords, Words, WordsFault, read_w
 use aom_commands::{ExitStatus, Fault, Translation, assemble_bytes, translate_bytes};
 use aom_diagnostic_commands::{Program, Telling, asm, check, debug, dot, explore, run};
 use aom_fault_injection::{Part, Tries};
-use aom_host::{Input, Output, ReadError, read_file};
+use aom_host::{Commands, Input, Output, ReadError, read_file};
 use aom_natives::{Counter, Delay, Line, Native, NativeKind};
 use aom_source_commands::{compile_source, script_of_source, show_source};
 use aom_transcript::{Sink, write_text};
@@ -189,9 +189,10 @@ fn execute<'a, W: Sink, E: Sink>(
             let names = *names || run.kind == FileKind::Source;
             run_beside(rt, run, text, Purpose::Run { telling, names }, out, errors)
         }
-        Words::Debug { run, text } => {
-            let file = text_name(run, text);
-            run_beside(rt, run, text, Purpose::Debug { file }, out, errors)
+        Words::Debug { run, prompt, text } => {
+            let (file, prompt) = (text_name(run, text), *prompt);
+            let purpose = Purpose::Debug { file, prompt };
+            run_beside(rt, run, text, purpose, out, errors)
         }
         Words::Explore { run, tries, text } => {
             explore_beside(rt, run, text, tries_of(*tries), out, errors)
@@ -282,8 +283,8 @@ fn text_name<'a>(run: &'a RunWords, text: &'a Option<String>) -> &'a [u8] {
 enum Purpose<'a> {
     /// To run, and to tell a fault so; with the names of the program's text in the transcript, or with numbers.
     Run { telling: Telling<'a>, names: bool },
-    /// To run as the commands say that come from standard input; the program's text is in that file.
-    Debug { file: &'a [u8] },
+    /// To run as the commands say that come from standard input, each behind a prompt, if one is asked for; the program's text is in that file.
+    Debug { file: &'a [u8], prompt: bool },
 }
 
 impl<'a> Purpose<'a> {
@@ -307,9 +308,14 @@ impl<'a> Purpose<'a> {
             Purpose::Run { telling, names } => run(
                 alloc, program, telling, names, script, limit, boxes, out, errors,
             ),
-            Purpose::Debug { file } => {
-                let mut input = Input::new(rt.stdin());
+            Purpose::Debug { file, prompt } => {
                 let mut out = Output::new(rt.stdout());
+                let prompts = if prompt {
+                    Some(Output::new(rt.stdout()))
+                } else {
+                    None
+                };
+                let mut commands = Commands::new(Input::new(rt.stdin()), prompts);
                 debug(
                     alloc,
                     program,
@@ -317,7 +323,7 @@ impl<'a> Purpose<'a> {
                     script,
                     limit,
                     boxes,
-                    &mut input,
+                    &mut commands,
                     MAX_READS,
                     &mut out,
                     errors,
