@@ -14,7 +14,7 @@ use aom_command_line::{FileKind, RunWords, TriesWords, Words, WordsFault, read_w
 use aom_commands::{ExitStatus, Fault, Translation, assemble_bytes, translate_bytes};
 use aom_diagnostic_commands::{Program, Telling, asm, check, check_all, debug, dot, explore, run};
 use aom_fault_injection::{Part, Tries};
-use aom_host::{Input, Output, ReadError, read_file};
+use aom_host::{Commands, Input, Output, ReadError, read_file};
 use aom_natives::{Counter, Delay, Line, Native, NativeKind};
 use aom_source_commands::{Emit, compile_source, script_of_source, show_source};
 use aom_transcript::{Sink, write_text};
@@ -195,7 +195,11 @@ fn execute<'a, W: Sink, E: Sink>(
             let names = *names || run.kind == FileKind::Source;
             run_beside(rt, run, text, Purpose::Run { telling, names }, out, errors)
         }
-        Words::Debug { run, text } => run_beside(rt, run, text, Purpose::Debug, out, errors),
+        Words::Debug { run, prompt, text } => {
+            let (file, prompt) = (text_name(run, text), *prompt);
+            let purpose = Purpose::Debug { file, prompt };
+            run_beside(rt, run, text, purpose, out, errors)
+        }
         Words::Explore { run, tries, text } => {
             explore_beside(rt, run, text, tries_of(*tries), out, errors)
         }
@@ -272,13 +276,22 @@ fn script_beside<'a>(
     }
 }
 
+/// The name of the file of a program's text, where there is one that the words name.
+fn text_name<'a>(run: &'a RunWords, text: &'a Option<String>) -> &'a [u8] {
+    match text {
+        Some(name) => name.as_bytes(),
+        None if run.kind == FileKind::Assembly => run.image.as_bytes(),
+        None => b"",
+    }
+}
+
 /// What a program and its natives are for.
 #[derive(Clone, Copy)]
 enum Purpose<'a> {
     /// To run, and to tell a fault so; with the names of the program's text in the transcript, or with numbers.
     Run { telling: Telling<'a>, names: bool },
-    /// To run as the commands say that come from standard input.
-    Debug,
+    /// To run as the commands say that come from standard input, each behind a prompt, if one is asked for; the program's text is in that file.
+    Debug { file: &'a [u8], prompt: bool },
 }
 
 impl<'a> Purpose<'a> {
@@ -302,11 +315,25 @@ impl<'a> Purpose<'a> {
             Purpose::Run { telling, names } => run(
                 alloc, program, telling, names, script, limit, boxes, out, errors,
             ),
-            Purpose::Debug => {
-                let mut input = Input::new(rt.stdin());
+            Purpose::Debug { file, prompt } => {
                 let mut out = Output::new(rt.stdout());
+                let prompts = if prompt {
+                    Some(Output::new(rt.stdout()))
+                } else {
+                    None
+                };
+                let mut commands = Commands::new(Input::new(rt.stdin()), prompts);
                 debug(
-                    alloc, program, script, limit, boxes, &mut input, MAX_READS, &mut out, errors,
+                    alloc,
+                    program,
+                    file,
+                    script,
+                    limit,
+                    boxes,
+                    &mut commands,
+                    MAX_READS,
+                    &mut out,
+                    errors,
                 )
             }
         }

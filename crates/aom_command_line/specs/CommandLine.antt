@@ -99,6 +99,10 @@ pairs_rule = flag_rule (codes "pairs")
 abbrev pub map_rule : Rule
 map_rule = flag_rule (codes "map")
 
+-- `--prompt`
+abbrev pub prompt_rule : Rule
+prompt_rule = flag_rule (codes "prompt")
+
 -- `--names`
 abbrev pub names_rule : Rule
 names_rule = flag_rule (codes "names")
@@ -168,9 +172,9 @@ abbrev pub explore_form : App
 explore_form =
     with_files (with_rule (with_rule (with_rule (with_rule (with_rule (with_rule (with_rule (with_rule (new_app (codes "explore")) limit_rule) from_rule) to_rule) kills_rule) deaths_rule) pairs_rule) tries_rule) text_rule)
 
--- debug [--limit N] [--text TEXT] [--asm] [--source] IMAGE SCRIPT [NATIVE]..
+-- debug [--limit N] [--prompt] [--text TEXT] [--asm] [--source] IMAGE SCRIPT [NATIVE]..
 abbrev pub debug_form : App
-debug_form = with_files (with_rule (with_rule (new_app (codes "debug")) limit_rule) text_rule)
+debug_form = with_files (with_rule (with_rule (with_rule (new_app (codes "debug")) limit_rule) prompt_rule) text_rule)
 
 -- the program's name, its version, and one of these
 abbrev pub bare_form : App
@@ -346,7 +350,7 @@ Asks (Some met) (Run run explain names text) =
     (met.0 ≡ codes "run") × AsksRun met.1 run × IsFlag (one_of (codes "explain") met.1) explain
     × AsksNames met.1 run.kind names × AsksText met.1 (explain || names) run.kind text
 Asks (Some met) (Explore run tries text) = (met.0 ≡ codes "explore") × AsksRun met.1 run × AsksTries met.1 tries × AsksText met.1 true run.kind text
-Asks (Some met) (Debug run text) = (met.0 ≡ codes "debug") × AsksRun met.1 run × AsksText met.1 true run.kind text
+Asks (Some met) (Debug run prompt text) = (met.0 ≡ codes "debug") × AsksRun met.1 run × IsFlag (one_of (codes "prompt") met.1) prompt × AsksText met.1 true run.kind text
 Asks (Some met) (Asm text explain) = (met.0 ≡ codes "asm") × (string_bytes text ≡ word_of (codes "TEXT") met.1) × IsFlag (one_of (codes "explain") met.1) explain
 Asks (Some met) (Dis image source) = (met.0 ≡ codes "dis") × (string_bytes image ≡ word_of (codes "IMAGE") met.1) × IsFlag (one_of (codes "source") met.1) source
 Asks (Some met) (Compile source map) = (met.0 ≡ codes "compile") × (string_bytes source ≡ word_of (codes "SOURCE") met.1) × IsFlag (one_of (codes "map") met.1) map
@@ -395,7 +399,7 @@ abbrev pub KeepsLimit : Words → Type 0
 KeepsLimit (Check image kind prices explain lines all text) = Unit {0}
 KeepsLimit (Run run explain names text) = (1 ≤ run.limit) × (run.limit ≤ 1000000000)
 KeepsLimit (Explore run tries text) = (1 ≤ run.limit) × (run.limit ≤ 1000000000)
-KeepsLimit (Debug run text) = (1 ≤ run.limit) × (run.limit ≤ 1000000000)
+KeepsLimit (Debug run prompt text) = (1 ≤ run.limit) × (run.limit ≤ 1000000000)
 KeepsLimit (Asm text explain) = Unit {0}
 KeepsLimit (Dis image source) = Unit {0}
 KeepsLimit (Compile source map) = Unit {0}

@@ -1,7 +1,7 @@
 //! The arguments of commands.
 ghost use Rattle.std.specs.Prelude.{◌≡◌, false};
 ghost use Rattle.clap.specs.Words.{rule_of};
-ghost use Rattle.aom_command_line.specs.CommandLine.{all_rule, asm_rule, deaths_rule, explain_rule, file_rule, flag_rule, from_rule, kills_rule, limit_rule, lines_rule, map_rule, names_rule, native_rule, number_rule, pairs_rule, prices_rule, source_rule, text_rule, to_rule, tries_rule};
+ghost use Rattle.aom_command_line.specs.CommandLine.{all_rule, asm_rule, deaths_rule, explain_rule, file_rule, flag_rule, from_rule, kills_rule, limit_rule, lines_rule, map_rule, names_rule, native_rule, number_rule, pairs_rule, prices_rule, prompt_rule, source_rule, text_rule, to_rule, tries_rule};
 
 use clap::builder::ValueParser;
 use clap::{Arg, ArgAction, value_parser};
@@ -179,6 +179,17 @@ pub fn text_arg<'a>(alloc: Global) -> Arg<'a>
 {
     Arg::new(alloc, "text").long("text").value_name("TEXT").help(
         "The text that the image was made of, to tell things by its names and lines",
+    )
+}
+
+pub fn prompt_arg<'a>(alloc: Global) -> Arg<'a>
+    ensures rule { rule_of result ≡ prompt_rule }
+    ensures own { result.global ≡ false }
+{
+    flag_arg(
+        alloc,
+        "prompt",
+        "Writes a prompt before each line is read; an empty line repeats the last step",
     )
 }
 

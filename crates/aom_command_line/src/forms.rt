@@ -5,7 +5,8 @@ ghost use Rattle.aom_command_line.specs.CommandLine.{HasForm, asm_form, check_fo
 
 use crate::args::{
     all_arg, asm_arg, deaths_arg, explain_arg, file_arg, from_arg, kills_arg, limit_arg, lines_arg,
-    map_arg, names_arg, native_arg, pairs_arg, prices_arg, source_arg, text_arg, to_arg, tries_arg,
+    map_arg, names_arg, native_arg, pairs_arg, prices_arg, prompt_arg, source_arg, text_arg, to_arg,
+    tries_arg,
 };
 use clap::{Arg, Command};
 use std::alloc::{AllocError, Global};
@@ -242,6 +243,7 @@ fn debug_command<'a>(alloc: Global) -> Result<Command<'a>, AllocError>
     let command = Command::new(alloc, "debug")
         .about("Runs an image step by step, by commands from standard input; help tells them")
         .arg(limit_arg(alloc));
+    let command = with_arg(command, prompt_arg(alloc));
     let command = with_arg(command, text_arg(alloc));
     with_files(alloc, command)
 }

@@ -70,6 +70,8 @@ pub enum Words {
     /// Run as commands say that come in.
     Debug {
         run: RunWords,
+        /// Whether a prompt is written before each line is read.
+        prompt: bool,
         /// The text that the image is of, whose names and lines are told.
         text: Option<String>,
     },
@@ -420,10 +422,12 @@ fn debug_words(alloc: Global, own: &ArgMatches) -> Result<Words, WordsFault>
     ensures asks { IfOk result (λ asked. Asks (Some (codes "debug", rows_of (found_of own.now))) asked) }
     ensures declines { IfErr result (λ fault. Declines true (Some (codes "debug", rows_of (found_of own.now))) fault) }
 {
+    let prompt = is_set(own, "prompt");
     let kind = file_kind_of(alloc, own)?;
     Ok(Words::Debug {
         text: text_of(alloc, own, true, kind)?,
         run: run_words(alloc, own, kind)?,
+        prompt,
     })
 }
 

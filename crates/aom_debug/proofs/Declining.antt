@@ -4,9 +4,12 @@ use Rattle.std.proofs.Common.{Result, Ok, Err, arith, ap, codes, cond, inl, inr,
 use Rattle.std.specs.Prelude.{IfErr, IfOk}
 use Rattle.std.proofs.lemmas.Bool.Decides.{nat_tests}
 use Rattle.std.specs.Str.{bytes_eq}
-use Rattle.aom_debug_protocol.specs.Commands.{command_said, known, line_says, words_say}
+use Rattle.aom_debug_protocol.specs.Commands.{command_said, known, line_says, name_says, verb_says, words_say}
 use Rattle.aom_debug_protocol.specs.declared.command.Command.{Command}
 use Rattle.aom_debug_protocol.specs.declared.command.Command.TheVariants.{Step, Next, Finish, Turn, Go, Until, Break, Unbreak}
+use Rattle.aom_debug_protocol.specs.Verbs.{verb_named}
+use Rattle.aom_debug_protocol.specs.declared.verb.Verb.{Verb}
+use Rattle.aom_debug_protocol.specs.declared.verb.Verb.TheVariants as v
 use Rattle.aom_debug_protocol.specs.declared.fault.DebugFault.{DebugFault}
 use Rattle.aom_debug_protocol.specs.declared.fault.DebugFault.TheVariants.{BadCommand, Ended, NoSuch}
 use Rattle.aom_debug_protocol.specs.declared.fault.DebugFault.TheVariants as faults
@@ -18,10 +21,10 @@ use Rattle.aom_text.specs.Words.{words}
 use Rattle.aom_text.specs.Numbers.{number_of, number_within}
 use Rattle.aom_text.specs.declared.number.Number.{Number}
 use Rattle.aom_transcript.specs.declared.line.Ending.{Ending}
-use Rattle.aom_debug_symbols.specs.NameLists.{NameLists, method_named}
+use Rattle.aom_debug_symbols.specs.NameLists.{NameLists, has_text, method_named}
 use Rattle.aom_debug_symbols.specs.Lines.{spot_in}
-use Rattle.aom_debug_symbols.specs.Commands.{command_by, has_text, is_mark, mark_at, mark_in, mark_named, mark_numbered}
-use Rattle.aom_debug_symbols.specs.Commands.{mark_said, mark_there, marked, numbered, or_named}
+use Rattle.aom_debug_symbols.specs.Commands.{command_by, is_mark, line_said, mark_at, mark_by, mark_first, mark_in, mark_line, mark_named, mark_numbered}
+use Rattle.aom_debug_symbols.specs.Commands.{mark_said, mark_there, mark_words, marked, numbered, or_named}
 use Rattle.aom_debug.specs.Commands.{is_count, spot_named}
 use Rattle.aom_debug.specs.Debugging.{Answer, CountsNot, Declined, FindsNone, Goes, GoesNamed, Marks, MarksAt, Outgoing, UntilCommands, steps_of}
 use Rattle.aom_debug.specs.Executing.{ExecutesLine, Executes, Passes}
@@ -141,16 +144,25 @@ module _ {X : Type 0} {B : X → Type 0} where
   passes_on d out failed well _ not = (well, refl, record { same = refl; silent = refl })
 
 -- no line says that the run has ended
+known_no_end : (o : Option Command) → known o ≡ Err Ended → ⊥
+known_no_end None e = cc
+known_no_end (Some command) e = cc
+
+verb_no_end : (verb : Verb) (ws : List (List ℕ)) → verb_says verb ws ≡ Err Ended → ⊥
+verb_no_end v.Quit [] e = cc
+verb_no_end v.Quit (w ∷ ws) e = known_no_end (words_say v.Quit (w ∷ ws)) e
+verb_no_end verb ws e = known_no_end (words_say verb ws) e
+
+name_no_end : (verb : Option Verb) (ws : List (List ℕ)) → name_says verb ws ≡ Err Ended → ⊥
+name_no_end None ws e = cc
+name_no_end (Some verb) ws e = verb_no_end verb ws e
+
 said_no_end : (line : List ℕ) → command_said line ≡ Err Ended → ⊥
 said_no_end line is = go (nat_lt 256 (length line)) is
   where
-    by_command : (o : Option Command) → known o ≡ Err Ended → ⊥
-    by_command None e = cc
-    by_command (Some command) e = cc
-
     by_words : (ws : List (List ℕ)) → line_says ws ≡ Err Ended → ⊥
     by_words [] e = cc
-    by_words (w ∷ ws) e = by_command (words_say w ws) e
+    by_words (w ∷ ws) e = name_no_end (verb_named w) ws e
 
     go : (b : Bool) → cond b (Err BadCommand) (line_says (words line)) ≡ Err Ended → ⊥
     go true e = cc
@@ -161,15 +173,15 @@ mark_no_end : (o : Option Command) → marked o ≡ Err Ended → ⊥
 mark_no_end None e = cc
 mark_no_end (Some command) e = cc
 
-there_no_end : (verb : List ℕ) (spot : Option CodeLocation) → mark_there verb spot ≡ Err Ended → ⊥
+there_no_end : (verb : Verb) (spot : Option CodeLocation) → mark_there verb spot ≡ Err Ended → ⊥
 there_no_end verb None e = cc
 there_no_end verb (Some spot) e = mark_no_end (mark_at verb (numbered spot.method) (numbered spot.place)) e
 
-in_no_end : (ns : NameLists) (verb : List ℕ) (line : Option ℕ) → mark_in ns verb line ≡ Err Ended → ⊥
+in_no_end : (ns : NameLists) (verb : Verb) (line : Option ℕ) → mark_in ns verb line ≡ Err Ended → ⊥
 in_no_end ns verb None e = cc
 in_no_end ns verb (Some line) e = there_no_end verb (spot_in ns.text line) e
 
-named_no_end : (ns : NameLists) (verb name : List ℕ) (method : Option ℕ) (number : Number) → mark_named ns verb name method number ≡ Err Ended → ⊥
+named_no_end : (ns : NameLists) (verb : Verb) (name : List ℕ) (method : Option ℕ) (number : Number) → mark_named ns verb name method number ≡ Err Ended → ⊥
 named_no_end ns verb name (Some method) number e = mark_no_end (mark_at verb (numbered method) number) e
 named_no_end ns verb name None number e = go (bytes_eq name (codes "line")) e
   where
@@ -177,20 +189,35 @@ named_no_end ns verb name None number e = go (bytes_eq name (codes "line")) e
     go true x = in_no_end ns verb (number_within 1 1048576 number) x
     go false x = cc
 
-numbered_no_end : (ns : NameLists) (verb name : List ℕ) (number : Option Number) → mark_numbered ns verb name number ≡ Err Ended → ⊥
+numbered_no_end : (ns : NameLists) (verb : Verb) (name : List ℕ) (number : Option Number) → mark_numbered ns verb name number ≡ Err Ended → ⊥
 numbered_no_end ns verb name None e = cc
 numbered_no_end ns verb name (Some number) e = named_no_end ns verb name (method_named ns name) number e
 
+line_no_end : (ns : NameLists) (verb : Verb) (number : Option Number) → mark_line ns verb number ≡ Err Ended → ⊥
+line_no_end ns verb None e = cc
+line_no_end ns verb (Some number) e = in_no_end ns verb (number_within 1 1048576 number) e
+
+first_no_end : (ns : NameLists) (verb : Verb) (word : List ℕ) (method : Option ℕ) → mark_first ns verb word method ≡ Err Ended → ⊥
+first_no_end ns verb word (Some method) e = mark_no_end (mark_at verb (numbered method) (numbered 0)) e
+first_no_end ns verb word None e = line_no_end ns verb (line_said ns.file word (number_of word)) e
+
+words_no_end : (ns : NameLists) (verb : Verb) (ws : List (List ℕ)) → mark_words ns verb ws ≡ Err Ended → ⊥
+words_no_end ns verb [] e = cc
+words_no_end ns verb (word ∷ []) e = first_no_end ns verb word (method_named ns word) e
+words_no_end ns verb (name ∷ number ∷ []) e = numbered_no_end ns verb name (number_of number) e
+words_no_end ns verb (name ∷ number ∷ w ∷ ws) e = cc
+
+by_no_end : (ns : NameLists) (verb : Option Verb) (ws : List (List ℕ)) → mark_by ns verb ws ≡ Err Ended → ⊥
+by_no_end ns None ws e = cc
+by_no_end ns (Some verb) ws e = go (is_mark verb) e
+  where
+    go : (b : Bool) → cond b (mark_words ns verb ws) (Err BadCommand) ≡ Err Ended → ⊥
+    go true x = words_no_end ns verb ws x
+    go false x = cc
+
 place_no_end : (ns : NameLists) (ws : List (List ℕ)) → mark_said ns ws ≡ Err Ended → ⊥
 place_no_end ns [] e = cc
-place_no_end ns (verb ∷ []) e = cc
-place_no_end ns (verb ∷ name ∷ []) e = cc
-place_no_end ns (verb ∷ name ∷ number ∷ []) e = go (is_mark verb) e
-  where
-    go : (b : Bool) → cond b (mark_numbered ns verb name (number_of number)) (Err BadCommand) ≡ Err Ended → ⊥
-    go true x = numbered_no_end ns verb name (number_of number) x
-    go false x = cc
-place_no_end ns (verb ∷ name ∷ number ∷ w ∷ ws) e = cc
+place_no_end ns (name ∷ ws) e = by_no_end ns (verb_named name) ws e
 
 or_no_end : (ns : NameLists) (line : List ℕ) (said : Result (Option Command) DebugFault) → (said ≡ Err Ended → ⊥) → or_named ns line said ≡ Err Ended → ⊥
 or_no_end ns line (Ok command) not e = cc

@@ -115,7 +115,7 @@ module _ {X : Type 0} {B : X → Type 0} (old new : Debugger X B) (out : Outgoin
   is_done Breaks x = looks_done (Sees inspect.Breaks) x
   is_done Clock x = looks_done (Sees inspect.Clock) x
   is_done Frames x = looks_done (Sees inspect.Frames) x
-  is_done Help x = looks_done (Sees inspect.Help) x
+  is_done (Help verb) x = looks_done (Sees (inspect.Help verb)) x
   is_done Cells x = looks_done (Sees inspect.Cells) x
   is_done Owners x = looks_done (Sees inspect.Owners) x
   is_done Cleanup x = looks_done (Sees inspect.Cleanup) x
@@ -143,7 +143,7 @@ module _ {X : Type 0} {B : X → Type 0} (old new : Debugger X B) (out : Outgoin
   still_well Breaks x = well_same x.1
   still_well Clock x = well_same x.1
   still_well Frames x = well_same x.1
-  still_well Help x = well_same x.1
+  still_well (Help verb) x = well_same x.1
   still_well Cells x = well_same x.1
   still_well Owners x = well_same x.1
   still_well Cleanup x = well_same x.1
@@ -230,7 +230,7 @@ module _ {X : Type 0} {B : X → Type 0} (old new : Debugger X B) (out : Outgoin
   is_refused Breaks fault other x = absurd (looks_refused (Sees inspect.Breaks) fault other x)
   is_refused Clock fault other x = absurd (looks_refused (Sees inspect.Clock) fault other x)
   is_refused Frames fault other x = absurd (looks_refused (Sees inspect.Frames) fault other x)
-  is_refused Help fault other x = absurd (looks_refused (Sees inspect.Help) fault other x)
+  is_refused (Help verb) fault other x = absurd (looks_refused (Sees (inspect.Help verb)) fault other x)
   is_refused Cells fault other x = absurd (looks_refused (Sees inspect.Cells) fault other x)
   is_refused Owners fault other x = absurd (looks_refused (Sees inspect.Owners) fault other x)
   is_refused Cleanup fault other x = absurd (looks_refused (Sees inspect.Cleanup) fault other x)
@@ -286,7 +286,7 @@ module _ {X : Type 0} {B : X → Type 0} (old new : Debugger X B) (out : Outgoin
   is_cut Breaks x = looks_cut Breaks (Sees inspect.Breaks) (λ s text y. (refl, y)) x
   is_cut Clock x = looks_cut Clock (Sees inspect.Clock) (λ s text y. (refl, y)) x
   is_cut Frames x = looks_cut Frames (Sees inspect.Frames) (λ s text y. (refl, y)) x
-  is_cut Help x = looks_cut Help (Sees inspect.Help) (λ s text y. (refl, y)) x
+  is_cut (Help verb) x = looks_cut (Help verb) (Sees (inspect.Help verb)) (λ s text y. (refl, y)) x
   is_cut Cells x = looks_cut Cells (Sees inspect.Cells) (λ s text y. (refl, y)) x
   is_cut Owners x = looks_cut Owners (Sees inspect.Owners) (λ s text y. (refl, y)) x
   is_cut Cleanup x = looks_cut Cleanup (Sees inspect.Cleanup) (λ s text y. (refl, y)) x

@@ -22,13 +22,13 @@ module _ {X : Type 0} {B : X → Type 0} where
 
   -- a line that is bad
   pub observed_fault : (d : Debugger X B) (fault : DebugFault) (before now : Option (List ℕ)) (failed : Bool) →
-      d.has_failed ≡ false → now ≡ after before (fault_text fault) → Observed (Err fault) d d (record { before = before; now = now; failed = failed })
-  observed_fault d fault before now failed well out = record { goes = λ s stands. (fault_text fault, s, (refl, refl), out, stands); well = well }
+      d.has_failed ≡ false → now ≡ after before (fault_text d.names fault) → Observed (Err fault) d d (record { before = before; now = now; failed = failed })
+  observed_fault d fault before now failed well out = record { goes = λ s stands. (fault_text d.names fault, s, (refl, refl), out, stands); well = well }
 
   pub observed_fault_part : (d : Debugger X B) (fault : DebugFault) (before now : Option (List ℕ)) (failed : Bool) →
-      IsCut (fault_text fault) WriteFault failed before now → ObservedPart (Err fault) d (record { before = before; now = now; failed = failed })
+      IsCut (fault_text d.names fault) WriteFault failed before now → ObservedPart (Err fault) d (record { before = before; now = now; failed = failed })
   observed_fault_part d fault before now failed cut =
-      record { goes = λ s stands. (fault_text fault, inl (standing d s, (refl, refl)), (cut.sent, cut.out)); failed = cut.fails }
+      record { goes = λ s stands. (fault_text d.names fault, inl (standing d s, (refl, refl)), (cut.sent, cut.out)); failed = cut.fails }
 
   module _ (old new : Debugger X B) (command : Command) (well : old.has_failed ≡ false) (before mid : Option (List ℕ)) (failed : Bool) where
     -- a command that is done
@@ -48,26 +48,31 @@ module _ {X : Type 0} {B : X → Type 0} where
     -- one that is refused
     module _ (fault : DebugFault) (other : fault ≢ WriteFault)
         (executes : Executes command old new (record { before = before; now = mid; failed = failed }) (Err fault)) (now : Option (List ℕ)) (then : Bool) where
-      pub observed_refused : now ≡ after mid (fault_text fault) → Observed (Ok (Some command)) old new (record { before = before; now = now; failed = then })
+      pub observed_refused : now ≡ after mid (fault_text new.names fault) → Observed (Ok (Some command)) old new (record { before = before; now = now; failed = then })
       observed_refused out =
           let r = is_refused old new (record { before = before; now = mid; failed = failed }) well command fault other executes in
           let same = r.0.same in
           record {
             goes = λ s stands. (
-              fault_text fault,
+              fault_text old.names fault,
               s,
               inr (fault, r.1 s stands, (ap (λ (d : Debugger X B). standing d s) same, refl)),
-              out ∙ ap (λ o. after o (fault_text fault)) r.0.silent,
+              subst (λ (d : Debugger X B). now ≡ after mid (fault_text d.names fault)) same out ∙ ap (λ o. after o (fault_text old.names fault)) r.0.silent,
               subst (λ (m : HostedMachine X B). RefinesWithNatives m s) (sym (ap (λ (d : Debugger X B). d.runner.machine) same)) stands,
             );
             well = ap (λ (d : Debugger X B). d.has_failed) same ∙ well;
           }
 
-      pub observed_refused_part : IsCut (fault_text fault) WriteFault then mid now →
+      pub observed_refused_part : IsCut (fault_text new.names fault) WriteFault then mid now →
           ObservedPart (Ok (Some command)) old (record { before = before; now = now; failed = then })
-      observed_refused_part cut =
+      observed_refused_part part =
           let r = is_refused old new (record { before = before; now = mid; failed = failed }) well command fault other executes in
+          let cut = subst (λ (d : Debugger X B). IsCut (fault_text d.names fault) WriteFault then mid now) r.0.same part in
           record {
-            goes = λ s stands. (fault_text fault, inl (standing old s, inr (fault, r.1 s stands, (refl, refl))), (cut.sent, cut.out ∙ ap (λ o. after o (take cut.sent (fault_text fault))) r.0.silent));
+            goes = λ s stands. (
+              fault_text old.names fault,
+              inl (standing old s, inr (fault, r.1 s stands, (refl, refl))),
+              (cut.sent, cut.out ∙ ap (λ o. after o (take cut.sent (fault_text old.names fault))) r.0.silent),
+            );
             failed = cut.fails;
           }

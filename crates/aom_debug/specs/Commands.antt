@@ -10,7 +10,8 @@ use Rattle.aom_transcript.specs.declared.line.Line.{Line}
 use Rattle.aom_transcript.specs.declared.line.Ending.{Ending}
 use Rattle.aom_transcript.specs.Text.{end_text, ended, text_of}
 use Rattle.aom_debug_protocol.specs.Marks.{has_spot, is_set}
-use Rattle.aom_debug_protocol.specs.Help.{help_text}
+use Rattle.aom_debug_protocol.specs.Help.{help_by}
+use Rattle.aom_debug_protocol.specs.declared.verb.Verb.{Verb}
 use Rattle.aom_debug_protocol.specs.declared.spot.CodeLocation.{CodeLocation}
 use Rattle.aom_debug_symbols.specs.NameLists.{NameLists}
 use Rattle.aom_debug_symbols.specs.Answers.{answer_by}
@@ -116,6 +117,6 @@ ShowsQueue s w text = (xs : List Answer) × (queue_answers s w ≡ Some xs) × (
 abbrev pub ShowsFrames : NameLists → Image → State → List ℕ → Type 0
 ShowsFrames ns p s text = (t : Typing) × IsStrongest p t × (text ≡ answers_by ns (frames_answers t s))
 
--- all commands
-abbrev pub ShowsHelp : List ℕ → Type 0
-ShowsHelp text = text ≡ help_text
+-- all commands, or one
+abbrev pub ShowsHelp : Option Verb → List ℕ → Type 0
+ShowsHelp verb text = text ≡ help_by verb

@@ -194,7 +194,7 @@ module _ {X : Type 0} {B : X → Type 0} where
   Sees At_breaks d s text = ShowsBreaks d.names d.breakpoints text
   Sees At_clock d s text = ShowsClock s text
   Sees At_frames d s text = ShowsFrames d.names d.runner.machine.core.image s text
-  Sees At_help d s text = ShowsHelp text
+  Sees (At_help verb) d s text = ShowsHelp verb text
   Sees At_timers d s text = ShowsTimers d.names s text
 
   -- what each state shows that the machine stands for is out

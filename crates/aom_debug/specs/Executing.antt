@@ -23,7 +23,7 @@ module _ {X : Type 0} {B : X → Type 0} where
   Executes Breaks = Looks (Sees inspect.Breaks)
   Executes Clock = Looks (Sees inspect.Clock)
   Executes Frames = Looks (Sees inspect.Frames)
-  Executes Help = Looks (Sees inspect.Help)
+  Executes (Help verb) = Looks (Sees (inspect.Help verb))
   Executes Cells = Looks (Sees inspect.Cells)
   Executes Owners = Looks (Sees inspect.Owners)
   Executes Cleanup = Looks (Sees inspect.Cleanup)

@@ -8,6 +8,7 @@ use Rattle.aom_semantics.specs.World.{Environment, Reaches}
 use Rattle.aom_transcript.specs.declared.line.Line.{Line}
 use Rattle.aom_transcript.specs.Text.{ended}
 use Rattle.aom_debug_symbols.specs.NameLists.{NameLists}
+use Rattle.aom_debug_symbols.specs.Answers.{answer_by}
 use Rattle.aom_debug_symbols.specs.Commands.{command_by}
 use Rattle.aom_debug_protocol.specs.declared.command.Command.{Command}
 use Rattle.aom_debug_protocol.specs.declared.command.Command.TheVariants.{Step, Next, Finish, Turn, Go, Until, Break, Unbreak, Breaks, Clock, Frames, Help, Cells, Owners, Cleanup, Actives, History, Timers, Words, Queue}
@@ -71,7 +72,7 @@ Does p outside (Unbreak method place) a text b = Unsets p method place a text b
 Does p outside Breaks a text b = Shown (λ t. ShowsBreaks a.names a.spots t) a text b
 Does p outside Clock a text b = Shown (λ t. ShowsClock a.state t) a text b
 Does p outside Frames a text b = Shown (λ t. ShowsFrames a.names p a.state t) a text b
-Does p outside Help a text b = Shown (λ t. ShowsHelp t) a text b
+Does p outside (Help verb) a text b = Shown (λ t. ShowsHelp verb t) a text b
 Does p outside Cells a text b = Shown (λ t. ShowsCells a.names p a.state t) a text b
 Does p outside Owners a text b = Shown (λ t. ShowsOwners a.names a.state t) a text b
 Does p outside Cleanup a text b = Shown (λ t. ShowsCleanup a.names a.state t) a text b
@@ -99,12 +100,12 @@ Refuses p command a fault = ⊥
 
 -- ---- what a line tells
 
-abbrev pub fault_text : DebugFault → List ℕ
-fault_text fault = ended (answer_text (Fault fault))
+abbrev pub fault_text : NameLists → DebugFault → List ℕ
+fault_text ns fault = ended (answer_by ns (Fault fault))
 
--- a fault is told, and nothing is changed
+-- a fault is told, in words too where there is a text, and nothing is changed
 abbrev pub Reported : DebugFault → SessionState → List ℕ → SessionState → Type 0
-Reported fault a text b = (b ≡ a) × (text ≡ fault_text fault)
+Reported fault a text b = (b ≡ a) × (text ≡ fault_text a.names fault)
 
 -- what a line says is done, or refused
 abbrev pub ExecutesLine : Image → Environment → Result (Option Command) DebugFault → SessionState → List ℕ → SessionState → Type 0

@@ -55,7 +55,7 @@ impl<'a> Debugger<'a> {
             Command::Breaks => self.breaks(out),
             Command::Clock => self.clock(out),
             Command::Frames => self.frames(out),
-            Command::Help => self.help(out),
+            Command::Help(verb) => self.help(verb, out),
             Command::Timers => self.timers(out),
             Command::Words(path) => self.words_at(path, out),
             Command::Queue(path) => self.queue_at(path, out),

@@ -6,7 +6,7 @@ ghost use Rattle.aom_debug.specs.Debugging.{Looks, Seen, SeenPart, Sees};
 
 use crate::Debugger;
 use crate::showing::{show_cells, show_frames, show_owners};
-use aom_debug_protocol::{DebugFault, help_text};
+use aom_debug_protocol::{DebugFault, Verb, help_by};
 use aom_debug_stepping::Sink;
 use aom_debug_views::{
     report_actives, report_breaks, report_cleanup, report_clock, report_recent, report_timers, send,
@@ -32,8 +32,8 @@ pub enum Inspection {
     Clock,
     /// The methods at hand, the outermost first.
     Frames,
-    /// The commands.
-    Help,
+    /// That command, or all.
+    Help(Option<Verb>),
     /// The timers that run, the one that is due first before all others.
     Timers,
 }
@@ -61,7 +61,7 @@ impl<'a> Debugger<'a> {
             Inspection::Breaks => report_breaks(&self.breakpoints, &self.names, out),
             Inspection::Clock => report_clock(self.runner.machine.core.parts(), out),
             Inspection::Frames => show_frames(&self.runner.machine, &self.names, out),
-            Inspection::Help => send(help_text(), out),
+            Inspection::Help(verb) => send(help_by(verb), out),
             Inspection::Timers => report_timers(self.runner.machine.core.parts(), &self.names, out),
         }
     }

@@ -5,7 +5,7 @@ ghost use Rattle.aom_debug.specs.Debugging.{Looks, Sees};
 ghost use Rattle.aom_debug.specs.declared.looking.Inspection.TheVariants as looks;
 
 use crate::{Debugger, Inspection};
-use aom_debug_protocol::DebugFault;
+use aom_debug_protocol::{DebugFault, Verb};
 use aom_debug_stepping::Sink;
 use aom_natives::Native;
 
@@ -109,14 +109,14 @@ impl<'a> Debugger<'a> {
         self.inspect(Inspection::Frames, out)
     }
 
-    /// The commands.
-    pub fn help<W: Sink>(&mut self, out: &mut W) -> Result<(), DebugFault>
+    /// That command, or all.
+    pub fn help<W: Sink>(&mut self, verb: Option<Verb>, out: &mut W) -> Result<(), DebugFault>
         requires agree { AllAgree (λ l. l.ids) (λ l. (⟦<dyn Native as Native>⟧ l.native.vtable).owed l.native.value) self.old.runner.machine.natives.slots.items }
         requires ready { IsReady self.old.runner }
         ensures agree { AllAgree (λ l. l.ids) (λ l. (⟦<dyn Native as Native>⟧ l.native.vtable).owed l.native.value) self.new.runner.machine.natives.slots.items }
         ensures keeps { KeepsRunner self.old.runner self.new.runner }
-        ensures answer { Looks (Sees looks.Help) self.old self.new (record { before = W.out out.old; now = W.out out.new; failed = W.failed out.new }) result }
+        ensures answer { Looks (Sees (looks.Help verb)) self.old self.new (record { before = W.out out.old; now = W.out out.new; failed = W.failed out.new }) result }
     {
-        self.inspect(Inspection::Help, out)
+        self.inspect(Inspection::Help(verb), out)
     }
 }

@@ -10,10 +10,11 @@ ghost use Rattle.aom_debug.specs.Reporting.{IsCut};
 ghost use Rattle.aom_debug_protocol.specs.declared.fault.DebugFault.TheVariants.{WriteFault};
 ghost use Rattle.aom_debug.specs.Sessions.{fault_text};
 
-use crate::{Debugger, Reader, Sink, report};
+use crate::{Debugger, Reader, Sink};
 use aom_commands::Fault;
 use aom_debug_protocol::{Answer, Command, DebugFault, Pending};
-use aom_debug_symbols::take_named;
+use aom_debug_symbols::{SourceNames, take_named};
+use aom_debug_views::report_by;
 use aom_natives::Native;
 
 /// How many bytes are read at once, at most.
@@ -38,7 +39,7 @@ fn execute<W: Sink>(
             None => Ok(()),
             Some(command) => command_done(debugger, command, out),
         },
-        Err(fault) => report_fault(fault, out),
+        Err(fault) => report_fault(&debugger.names, fault, out),
     }
 }
 
@@ -60,17 +61,17 @@ fn command_done<W: Sink>(
         Ok(()) => Ok(()),
         Err(fault) => match fault {
             DebugFault::WriteFault => Err(Fault::Write),
-            other => report_fault(other, out),
+            other => report_fault(&debugger.names, other, out),
         },
     }
 }
 
-/// Tells why a line is refused.
-fn report_fault<W: Sink>(fault: DebugFault, out: &mut W) -> Result<(), Fault>
-    ensures ok { IfOk result (λ _. W.out out.new ≡ after (W.out out.old) (fault_text fault)) }
-    ensures err { IfErr result (λ why. (why ≡ Write) × IsCut (fault_text fault) WriteFault (W.failed out.new) (W.out out.old) (W.out out.new)) }
+/// Tells why a line is refused, in words too where there is a text.
+fn report_fault<W: Sink>(names: &SourceNames, fault: DebugFault, out: &mut W) -> Result<(), Fault>
+    ensures ok { IfOk result (λ _. W.out out.new ≡ after (W.out out.old) (fault_text names.now fault)) }
+    ensures err { IfErr result (λ why. (why ≡ Write) × IsCut (fault_text names.now fault) WriteFault (W.failed out.new) (W.out out.old) (W.out out.new)) }
 {
-    match report(Answer::Fault(fault), out) {
+    match report_by(names, Answer::Fault(fault), out) {
         Ok(()) => Ok(()),
         Err(_) => Err(Fault::Write),
     }

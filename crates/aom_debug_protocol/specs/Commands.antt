@@ -1,38 +1,38 @@
 -- What a line of a debugger's input says.
-use Rattle.std.specs.Prelude.{ℕ, nat_lt, if◌then◌else◌, List, [], ◌∷◌, length, codes, Option, Some, None, option_map, Result, Ok, Err}
-use Rattle.std.specs.Str.{bytes_eq}
+use Rattle.std.specs.Prelude.{ℕ, Bool, true, false, nat_lt, if◌then◌else◌, List, [], ◌∷◌, length, Option, Some, None, option_map, Result, Ok, Err}
 use Rattle.aom_text.specs.Words.{words}
 use Rattle.aom_text.specs.Numbers.{number_of, number_within}
 use Rattle.aom_text.specs.declared.number.Number.{Number}
 use Rattle.aom_debug_protocol.specs.Ways.{Way, path_said}
 use Rattle.aom_debug_protocol.specs.declared.command.Command.{Command}
 use Rattle.aom_debug_protocol.specs.declared.command.Command.TheVariants.{Step, Next, Finish, Turn, Go, Until, Break, Unbreak, Breaks, Clock, Frames, Help, Cells, Owners, Cleanup, Actives, History, Timers, Words, Queue}
+use Rattle.aom_debug_protocol.specs.Verbs.{verb_named}
+use Rattle.aom_debug_protocol.specs.declared.verb.Verb.{Verb}
+use Rattle.aom_debug_protocol.specs.declared.verb.Verb.TheVariants as v
 use Rattle.aom_debug_protocol.specs.declared.fault.DebugFault.{DebugFault}
 use Rattle.aom_debug_protocol.specs.declared.fault.DebugFault.TheVariants.{BadCommand}
 
 -- ---- names alone
 
-abbrev pub named : List ℕ → Option Command
-named name =
-    if bytes_eq name (codes "next") then Some Next
-    else if bytes_eq name (codes "finish") then Some Finish
-    else if bytes_eq name (codes "turn") then Some Turn
-    else if bytes_eq name (codes "go") then Some Go
-    else if bytes_eq name (codes "breaks") then Some Breaks
-    else if bytes_eq name (codes "clock") then Some Clock
-    else if bytes_eq name (codes "frames") then Some Frames
-    else if bytes_eq name (codes "help") then Some Help
-    else if bytes_eq name (codes "cells") then Some Cells
-    else if bytes_eq name (codes "owners") then Some Owners
-    else if bytes_eq name (codes "cleanup") then Some Cleanup
-    else if bytes_eq name (codes "actives") then Some Actives
-    else if bytes_eq name (codes "recent") then Some History
-    else if bytes_eq name (codes "timers") then Some Timers
-    else None
+abbrev pub command_of : Verb → Option Command
+command_of v.Next = Some Next
+command_of v.Finish = Some Finish
+command_of v.Turn = Some Turn
+command_of v.Go = Some Go
+command_of v.Breaks = Some Breaks
+command_of v.Clock = Some Clock
+command_of v.Frames = Some Frames
+command_of v.Cells = Some Cells
+command_of v.Owners = Some Owners
+command_of v.Cleanup = Some Cleanup
+command_of v.Actives = Some Actives
+command_of v.Recent = Some History
+command_of v.Timers = Some Timers
+command_of verb = None
 
-abbrev pub alone : List ℕ → List (List ℕ) → Option Command
-alone name [] = named name
-alone name (w ∷ ws) = None
+abbrev pub alone : Verb → List (List ℕ) → Option Command
+alone verb [] = command_of verb
+alone verb (w ∷ ws) = None
 
 -- ---- names with numbers
 
@@ -41,7 +41,9 @@ abbrev pub steps_by : Option Number → Option Command
 steps_by None = None
 steps_by (Some n) = option_map Step (number_within 1 1000000 n)
 
+-- one step where no number is said
 abbrev pub step_says : List (List ℕ) → Option Command
+step_says [] = Some (Step 1)
 step_says (steps ∷ []) = steps_by (number_of steps)
 step_says _ = None
 
@@ -82,28 +84,77 @@ abbrev pub queue_at : Option Way → Option Command
 queue_at None = None
 queue_at (Some w) = Some (Queue w)
 
+-- ---- help
+
+-- of a command, if it is one
+abbrev pub help_about : Option Verb → Option Command
+help_about None = None
+help_about (Some verb) = Some (Help (Some verb))
+
+-- of all commands, or of one
+abbrev pub help_says : List (List ℕ) → Option Command
+help_says [] = Some (Help None)
+help_says (name ∷ []) = help_about (verb_named name)
+help_says _ = None
+
 -- ---- lines
 
-abbrev pub words_say : List ℕ → List (List ℕ) → Option Command
-words_say name others =
-    if bytes_eq name (codes "step") then step_says others
-    else if bytes_eq name (codes "break") then break_says others
-    else if bytes_eq name (codes "unbreak") then unbreak_says others
-    else if bytes_eq name (codes "until") then until_says others
-    else if bytes_eq name (codes "words") then words_at (path_said others)
-    else if bytes_eq name (codes "queue") then queue_at (path_said others)
-    else alone name others
+abbrev pub words_say : Verb → List (List ℕ) → Option Command
+words_say v.Step others = step_says others
+words_say v.Break others = break_says others
+words_say v.Unbreak others = unbreak_says others
+words_say v.Until others = until_says others
+words_say v.Words others = words_at (path_said others)
+words_say v.Queue others = queue_at (path_said others)
+words_say v.Help others = help_says others
+words_say verb others = alone verb others
 
 -- a command, or none that there is
 abbrev pub known : Option Command → Result (Option Command) DebugFault
 known None = Err BadCommand
 known (Some command) = Ok (Some command)
 
+-- that nothing more comes asks nothing
+abbrev pub verb_says : Verb → List (List ℕ) → Result (Option Command) DebugFault
+verb_says v.Quit [] = Ok None
+verb_says verb others = known (words_say verb others)
+
+abbrev pub name_says : Option Verb → List (List ℕ) → Result (Option Command) DebugFault
+name_says None others = Err BadCommand
+name_says (Some verb) others = verb_says verb others
+
 -- a line without words asks nothing
 abbrev pub line_says : List (List ℕ) → Result (Option Command) DebugFault
 line_says [] = Ok None
-line_says (name ∷ others) = known (words_say name others)
+line_says (name ∷ others) = name_says (verb_named name) others
 
 -- a line of 256 bytes at most says what its words say
 abbrev pub command_said : List ℕ → Result (Option Command) DebugFault
 command_said line = if nat_lt 256 (length line) then Err BadCommand else line_says (words line)
+
+-- ---- a session
+
+-- that nothing more comes
+abbrev pub is_quit : Option Verb → Bool
+is_quit (Some v.Quit) = true
+is_quit _ = false
+
+abbrev pub is_end : List (List ℕ) → Bool
+is_end (name ∷ []) = is_quit (verb_named name)
+is_end _ = false
+
+-- a line that says so ends the session
+abbrev pub ends_session : List ℕ → Bool
+ends_session line = if nat_lt 256 (length line) then false else is_end (words line)
+
+-- what a user may say again
+abbrev pub is_repeated : Command → Bool
+is_repeated (Step n) = true
+is_repeated Next = true
+is_repeated Turn = true
+is_repeated command = false
+
+-- by an empty line
+abbrev pub may_repeat : Result (Option Command) DebugFault → Bool
+may_repeat (Ok (Some command)) = is_repeated command
+may_repeat _ = false

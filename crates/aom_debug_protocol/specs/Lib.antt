@@ -1,6 +1,7 @@
 pub mod Answers
 pub mod Marks
 pub mod Ways
+pub mod Verbs
 pub mod Commands
 pub mod Faults
 pub mod Lines

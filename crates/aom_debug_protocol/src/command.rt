@@ -1,11 +1,12 @@
 //! What a line of commands says.
 ghost use Rattle.std.specs.Prelude.{◌≡◌};
 ghost use Rattle.aom_text.specs.Numbers.{number_of};
-ghost use Rattle.aom_debug_protocol.specs.Commands.{break_says, breaks_at, command_said, known, line_says, named, step_says, steps_by, unbreak_says, unbreaks_at, until_at, until_says, words_at, queue_at, words_say};
+ghost use Rattle.aom_debug_protocol.specs.Commands.{alone, break_says, breaks_at, command_of, command_said, ends_session, help_about, help_says, is_end, is_quit, is_repeated, known, line_says, may_repeat, queue_at, step_says, steps_by, unbreak_says, unbreaks_at, until_at, until_says, verb_says, words_at, words_say};
 
 use crate::DebugFault;
 use crate::path::Path;
 use crate::reading::read_path;
+use crate::verb::{Verb, verb_named};
 use aom_text::{Number, WordCursor};
 
 /// The most bytes of a line, its line feed aside.
@@ -37,8 +38,8 @@ pub enum Command {
     Timers,
     /// The methods at hand.
     Frames,
-    /// The commands that there are.
-    Help,
+    /// What is told of that command, or of all.
+    Help(Option<Verb>),
     Cells,
     Owners,
     Cleanup,
@@ -60,6 +61,44 @@ pub fn read_command(line: &[u8]) -> Result<Option<Command>, DebugFault>
     read_line(WordCursor::of(line))
 }
 
+/// Whether a line ends the session.
+pub fn ends_session(line: &[u8]) -> bool
+    ensures { result ≡ ends_session line.now }
+{
+    line.len() <= MAX_BYTES && is_end(WordCursor::of(line))
+}
+
+fn is_end(mut words: WordCursor) -> bool
+    ensures { result ≡ is_end words.entry }
+{
+    match words.next() {
+        Some(name) if words.is_empty() => is_quit(verb_named(name)),
+        _ => false,
+    }
+}
+
+fn is_quit(verb: Option<Verb>) -> bool
+    ensures { result ≡ is_quit verb }
+{
+    matches!(verb, Some(Verb::Quit))
+}
+
+/// Whether a user may repeat a line by an empty one.
+pub fn may_repeat(line: &[u8]) -> bool
+    ensures { result ≡ may_repeat (command_said line.now) }
+{
+    match read_command(line) {
+        Ok(Some(command)) => is_repeated(&command),
+        _ => false,
+    }
+}
+
+fn is_repeated(command: &Command) -> bool
+    ensures { result ≡ is_repeated command.now }
+{
+    matches!(command, Command::Step(_) | Command::Next | Command::Turn)
+}
+
 /// What the words of a line say.
 fn read_line(mut words: WordCursor) -> Result<Option<Command>, DebugFault>
     ensures { result ≡ line_says words.entry }
@@ -67,7 +106,20 @@ fn read_line(mut words: WordCursor) -> Result<Option<Command>, DebugFault>
     let Some(name) = words.next() else {
         return Ok(None);
     };
-    known(read_words(name, words))
+    match verb_named(name) {
+        Some(verb) => read_verb(verb, words),
+        None => Err(DebugFault::BadCommand),
+    }
+}
+
+/// What a command and the words behind its name say. The end asks nothing.
+fn read_verb(verb: Verb, words: WordCursor) -> Result<Option<Command>, DebugFault>
+    ensures { result ≡ verb_says verb words.entry }
+{
+    match verb {
+        Verb::Quit if words.is_empty() => Ok(None),
+        _ => known(read_words(verb, words)),
+    }
 }
 
 /// A command, or none that there is.
@@ -80,24 +132,28 @@ fn known(command: Option<Command>) -> Result<Option<Command>, DebugFault>
     }
 }
 
-/// What a command's name and the words behind it say.
-fn read_words(name: &[u8], words: WordCursor) -> Option<Command>
-    ensures { result ≡ words_say name.now words.entry }
+/// The command that the words behind its name say.
+fn read_words(verb: Verb, words: WordCursor) -> Option<Command>
+    ensures { result ≡ words_say verb words.entry }
 {
-    if name == b"step".as_slice() {
-        read_step(words)
-    } else if name == b"break".as_slice() {
-        read_break(words)
-    } else if name == b"unbreak".as_slice() {
-        read_unbreak(words)
-    } else if name == b"until".as_slice() {
-        read_until(words)
-    } else if name == b"words".as_slice() {
-        words_at(read_path(words))
-    } else if name == b"queue".as_slice() {
-        queue_at(read_path(words))
-    } else if words.is_empty() {
-        command_named(name)
+    match verb {
+        Verb::Step => read_step(words),
+        Verb::Break => read_break(words),
+        Verb::Unbreak => read_unbreak(words),
+        Verb::Until => read_until(words),
+        Verb::Words => words_at(read_path(words)),
+        Verb::Queue => queue_at(read_path(words)),
+        Verb::Help => read_help(words),
+        _ => read_alone(verb, words),
+    }
+}
+
+/// The command whose name stands alone.
+fn read_alone(verb: Verb, words: WordCursor) -> Option<Command>
+    ensures { result ≡ alone verb words.entry }
+{
+    if words.is_empty() {
+        command_of(verb)
     } else {
         None
     }
@@ -124,48 +180,59 @@ fn queue_at(path: Option<Path>) -> Option<Command>
 }
 
 /// The command that is its name alone.
-fn command_named(name: &[u8]) -> Option<Command>
-    ensures { result ≡ named name.now }
+fn command_of(verb: Verb) -> Option<Command>
+    ensures { result ≡ command_of verb }
 {
-    if name == b"next".as_slice() {
-        Some(Command::Next)
-    } else if name == b"finish".as_slice() {
-        Some(Command::Finish)
-    } else if name == b"turn".as_slice() {
-        Some(Command::Turn)
-    } else if name == b"go".as_slice() {
-        Some(Command::Go)
-    } else if name == b"breaks".as_slice() {
-        Some(Command::Breaks)
-    } else if name == b"clock".as_slice() {
-        Some(Command::Clock)
-    } else if name == b"frames".as_slice() {
-        Some(Command::Frames)
-    } else if name == b"help".as_slice() {
-        Some(Command::Help)
-    } else if name == b"cells".as_slice() {
-        Some(Command::Cells)
-    } else if name == b"owners".as_slice() {
-        Some(Command::Owners)
-    } else if name == b"cleanup".as_slice() {
-        Some(Command::Cleanup)
-    } else if name == b"actives".as_slice() {
-        Some(Command::Actives)
-    } else if name == b"recent".as_slice() {
-        Some(Command::History)
-    } else if name == b"timers".as_slice() {
-        Some(Command::Timers)
+    match verb {
+        Verb::Next => Some(Command::Next),
+        Verb::Finish => Some(Command::Finish),
+        Verb::Turn => Some(Command::Turn),
+        Verb::Go => Some(Command::Go),
+        Verb::Breaks => Some(Command::Breaks),
+        Verb::Clock => Some(Command::Clock),
+        Verb::Frames => Some(Command::Frames),
+        Verb::Cells => Some(Command::Cells),
+        Verb::Owners => Some(Command::Owners),
+        Verb::Cleanup => Some(Command::Cleanup),
+        Verb::Actives => Some(Command::Actives),
+        Verb::Recent => Some(Command::History),
+        Verb::Timers => Some(Command::Timers),
+        _ => None,
+    }
+}
+
+fn read_help(mut words: WordCursor) -> Option<Command>
+    ensures { result ≡ help_says words.entry }
+{
+    let Some(name) = words.next() else {
+        return Some(Command::Help(None));
+    };
+    if words.is_empty() {
+        help_about(verb_named(name))
     } else {
         None
+    }
+}
+
+fn help_about(verb: Option<Verb>) -> Option<Command>
+    ensures { result ≡ help_about verb }
+{
+    match verb {
+        Some(verb) => Some(Command::Help(Some(verb))),
+        None => None,
     }
 }
 
 fn read_step(mut words: WordCursor) -> Option<Command>
     ensures { result ≡ step_says words.entry }
 {
-    match words.next() {
-        Some(steps) if words.is_empty() => step_by(steps),
-        _ => None,
+    let Some(steps) = words.next() else {
+        return Some(Command::Step(1));
+    };
+    if words.is_empty() {
+        step_by(steps)
+    } else {
+        None
     }
 }
 

@@ -1,5 +1,5 @@
 -- Without a text nothing is told by names: there is none to be found in it.
-use Rattle.std.proofs.Common.{◌≡◌, ◌+◌, ℕ, suc, Bool, true, false, cond, nat_lt, List, [], ◌++◌, Option}
+use Rattle.std.proofs.Common.{◌≡◌, ℕ, suc, Bool, true, false, cond, nat_lt, List, [], ◌++◌, Option}
 use Rattle.std.proofs.Common.{None, Result, Ok, Err, add-one, ap, codes, decimal, length, refl, slice_get}
 use Rattle.aom_syntax.specs.declared.keyword.Keyword.TheVariants as k
 use Rattle.aom_diagnostics.specs.Declarations.{begins, part}

@@ -11,8 +11,10 @@ use Rattle.aom_debug_protocol.specs.declared.answer.Content.TheVariants as conte
 use Rattle.aom_debug_protocol.specs.declared.answer.Source.{Source}
 use Rattle.aom_debug_protocol.specs.declared.answer.Source.TheVariants as sources
 use Rattle.aom_debug_protocol.specs.declared.answer.Answer.{Answer}
-use Rattle.aom_debug_protocol.specs.declared.answer.Answer.TheVariants.{At, Gone, OfClass, Object, Operation, Active, Server, Timer, Break, Frame, Register, Ran}
-use Rattle.aom_debug_symbols.specs.NameLists.{NameLists, class_by, method_by, statement_at}
+use Rattle.aom_debug_protocol.specs.declared.answer.Answer.TheVariants.{At, Fault, Gone, OfClass, Object, Operation, Active, Server, Timer, Break, Frame, Register, Ran}
+use Rattle.aom_debug_protocol.specs.declared.fault.DebugFault.{DebugFault}
+use Rattle.aom_debug_protocol.specs.declared.fault.DebugFault.TheVariants.{BadCommand, NoSuch, Ended, OutOfMemory, WriteFault}
+use Rattle.aom_debug_symbols.specs.NameLists.{NameLists, class_by, has_text, method_by, statement_at}
 
 -- a method and a place
 abbrev pub place_by : NameLists → CodeLocation → List ℕ
@@ -38,7 +40,20 @@ content_by ns (contents.Own class) = codes " own " ++ class_by ns class
 content_by ns contents.Null = codes " null"
 content_by ns (contents.Message source) = codes " " ++ observer_by ns source
 
--- an answer up to the statement that stands behind it, if one does. Where neither a class nor a method is told it is as ever
+-- why a command is refused, in words
+abbrev pub reason_text : DebugFault → List ℕ
+reason_text BadCommand = codes "no command: a wrong word, too few, too many, or a bad number; see help"
+reason_text NoSuch = codes "no such place, line, file, breakpoint or object, or a seventeenth breakpoint"
+reason_text Ended = codes "the run is over"
+reason_text OutOfMemory = codes "there is no memory"
+reason_text WriteFault = codes "the output takes no more"
+
+-- a fault, and with a text its reason on a line of its own
+abbrev pub fault_by : Bool → DebugFault → List ℕ
+fault_by true fault = answer_text (Fault fault) ++ (codes "\n# " ++ reason_text fault)
+fault_by false fault = answer_text (Fault fault)
+
+-- an answer up to the statement that stands behind it, if one does. Where no class, method or fault is told it is as ever
 abbrev pub head_by : NameLists → Answer → List ℕ
 head_by ns (At spot) = codes "at " ++ place_by ns spot
 head_by ns (Gone class) = codes "at gone " ++ class_by ns class
@@ -52,6 +67,7 @@ head_by ns (Break spot) = codes "break " ++ place_by ns spot
 head_by ns (Frame spot) = place_by ns spot
 head_by ns (Register i content) = codes "r" ++ decimal i ++ content_by ns content
 head_by ns (Ran spot) = place_by ns spot
+head_by ns (Fault fault) = fault_by (has_text ns) fault
 head_by ns answer = answer_text answer
 
 -- an answer that tells a class

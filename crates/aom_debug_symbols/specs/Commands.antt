@@ -1,5 +1,5 @@
 -- What a line of a debugger's input says where a text gives names and lines.
-use Rattle.std.specs.Prelude.{ℕ, Bool, true, false, nat_lt, if◌then◌else◌, List, [], ◌∷◌, length, codes, Option, Some, None, Result, Ok, Err}
+use Rattle.std.specs.Prelude.{ℕ, Bool, true, false, nat_lt, ◌==◌, if◌then◌else◌, List, [], ◌∷◌, drop, length, take, codes, Option, Some, None, Result, Ok, Err}
 use Rattle.std.specs.Str.{bytes_eq}
 use Rattle.aom_text.specs.Words.{words}
 use Rattle.aom_text.specs.Numbers.{number_of, number_within}
@@ -7,23 +7,25 @@ use Rattle.aom_text.specs.declared.number.Number.{Number}
 use Rattle.aom_debug_protocol.specs.Commands.{command_said}
 use Rattle.aom_debug_protocol.specs.declared.command.Command.{Command}
 use Rattle.aom_debug_protocol.specs.declared.command.Command.TheVariants.{Until, Break, Unbreak}
+use Rattle.aom_debug_protocol.specs.Verbs.{verb_named}
+use Rattle.aom_debug_protocol.specs.declared.verb.Verb.{Verb}
+use Rattle.aom_debug_protocol.specs.declared.verb.Verb.TheVariants as v
 use Rattle.aom_debug_protocol.specs.declared.fault.DebugFault.{DebugFault}
 use Rattle.aom_debug_protocol.specs.declared.fault.DebugFault.TheVariants.{BadCommand, NoSuch}
 use Rattle.aom_debug_protocol.specs.declared.spot.CodeLocation.{CodeLocation}
-use Rattle.aom_debug_symbols.specs.NameLists.{NameLists, method_named}
+use Rattle.aom_debug_symbols.specs.NameLists.{NameLists, has_text, method_named}
 use Rattle.aom_debug_symbols.specs.Lines.{spot_in}
 
 -- a number, as a command has it
 abbrev pub numbered : ℕ → Number
 numbered n = record { is_negative = false; size = n }
 
--- the command of that name at a place
-abbrev pub mark_at : List ℕ → (method place : Number) → Option Command
-mark_at verb method place =
-    if bytes_eq verb (codes "break") then Some (Break method place)
-    else if bytes_eq verb (codes "unbreak") then Some (Unbreak method place)
-    else if bytes_eq verb (codes "until") then Some (Until method place)
-    else None
+-- that command at a place; no other takes one
+abbrev pub mark_at : Verb → (method place : Number) → Option Command
+mark_at v.Break method place = Some (Break method place)
+mark_at v.Unbreak method place = Some (Unbreak method place)
+mark_at v.Until method place = Some (Until method place)
+mark_at verb method place = None
 
 -- it is one of these, or none
 abbrev pub marked : Option Command → Result (Option Command) DebugFault
@@ -31,36 +33,73 @@ marked None = Err BadCommand
 marked (Some command) = Ok (Some command)
 
 -- at a place, if there is one
-abbrev pub mark_there : List ℕ → Option CodeLocation → Result (Option Command) DebugFault
+abbrev pub mark_there : Verb → Option CodeLocation → Result (Option Command) DebugFault
 mark_there verb None = Err NoSuch
 mark_there verb (Some spot) = marked (mark_at verb (numbered spot.method) (numbered spot.place))
 
 -- in a line, if that is the number of one
-abbrev pub mark_in : NameLists → List ℕ → Option ℕ → Result (Option Command) DebugFault
+abbrev pub mark_in : NameLists → Verb → Option ℕ → Result (Option Command) DebugFault
 mark_in ns verb None = Err NoSuch
 mark_in ns verb (Some line) = mark_there verb (spot_in ns.text line)
 
+-- ---- by two words
+
 -- a place of the method of that name; or where none has it, an instruction by its line
-abbrev pub mark_named : NameLists → List ℕ → List ℕ → Option ℕ → Number → Result (Option Command) DebugFault
+abbrev pub mark_named : NameLists → Verb → List ℕ → Option ℕ → Number → Result (Option Command) DebugFault
 mark_named ns verb name (Some method) number = marked (mark_at verb (numbered method) number)
 mark_named ns verb name None number = if bytes_eq name (codes "line") then mark_in ns verb (number_within 1 1048576 number) else Err NoSuch
 
-abbrev pub mark_numbered : NameLists → List ℕ → List ℕ → Option Number → Result (Option Command) DebugFault
+abbrev pub mark_numbered : NameLists → Verb → List ℕ → Option Number → Result (Option Command) DebugFault
 mark_numbered ns verb name None = Err BadCommand
 mark_numbered ns verb name (Some number) = mark_named ns verb name (method_named ns name) number
 
+-- ---- by one word
+
+-- the number behind a colon
+abbrev pub behind_colon : List ℕ → Option Number
+behind_colon [] = None
+behind_colon (b ∷ digits) = if b == 58 then number_of digits else None
+
+-- FILE:LINE, where that is the name of the text
+abbrev pub line_of_file : (file word : List ℕ) → Option Number
+line_of_file file word = if bytes_eq (take (length file) word) file then behind_colon (drop (length file) word) else None
+
+-- LINE, or FILE:LINE
+abbrev pub line_said : (file word : List ℕ) → Option Number → Option Number
+line_said file word (Some number) = Some number
+line_said file word None = line_of_file file word
+
+abbrev pub mark_line : NameLists → Verb → Option Number → Result (Option Command) DebugFault
+mark_line ns verb None = Err NoSuch
+mark_line ns verb (Some number) = mark_in ns verb (number_within 1 1048576 number)
+
+-- the first place of the method of that name; or where none has it, an instruction by its line
+abbrev pub mark_first : NameLists → Verb → List ℕ → Option ℕ → Result (Option Command) DebugFault
+mark_first ns verb word (Some method) = marked (mark_at verb (numbered method) (numbered 0))
+mark_first ns verb word None = mark_line ns verb (line_said ns.file word (number_of word))
+
+-- ---- by words
+
 -- these three take a place
-abbrev pub is_mark : List ℕ → Bool
-is_mark verb = if bytes_eq verb (codes "break") then true else if bytes_eq verb (codes "unbreak") then true else bytes_eq verb (codes "until")
+abbrev pub is_mark : Verb → Bool
+is_mark v.Break = true
+is_mark v.Unbreak = true
+is_mark v.Until = true
+is_mark verb = false
 
--- `break NAME PLACE`, `break line LINE`, and so of the other two
+-- `break NAME PLACE`, `break line LINE`, `break NAME`, `break LINE`, `break FILE:LINE`, and so of the other two
+abbrev pub mark_words : NameLists → Verb → List (List ℕ) → Result (Option Command) DebugFault
+mark_words ns verb (word ∷ []) = mark_first ns verb word (method_named ns word)
+mark_words ns verb (name ∷ number ∷ []) = mark_numbered ns verb name (number_of number)
+mark_words ns verb others = Err BadCommand
+
+abbrev pub mark_by : NameLists → Option Verb → List (List ℕ) → Result (Option Command) DebugFault
+mark_by ns None others = Err BadCommand
+mark_by ns (Some verb) others = if is_mark verb then mark_words ns verb others else Err BadCommand
+
 abbrev pub mark_said : NameLists → List (List ℕ) → Result (Option Command) DebugFault
-mark_said ns (verb ∷ name ∷ number ∷ []) = if is_mark verb then mark_numbered ns verb name (number_of number) else Err BadCommand
-mark_said ns ws = Err BadCommand
-
--- there is a text
-abbrev pub has_text : NameLists → Bool
-has_text ns = elim ns.methods [ [] ↦ false | _ ∷ _ ↦ true ]
+mark_said ns [] = Err BadCommand
+mark_said ns (name ∷ others) = mark_by ns (verb_named name) others
 
 -- a line that says something is as ever; of one that says nothing the names of a text are looked at, where there is one
 abbrev pub or_named : NameLists → List ℕ → Result (Option Command) DebugFault → Result (Option Command) DebugFault

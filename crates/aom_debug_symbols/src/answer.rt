@@ -2,11 +2,12 @@
 ghost use Rattle.std.specs.Prelude.{◌≡◌, ◌+◌, ◌≤◌, [], ◌++◌, IfNone, IfSome, codes, decimal, false, length};
 ghost use Rattle.std.specs.Fmt.{signed_decimal};
 ghost use Rattle.aom_debug_protocol.specs.Answers.{answer_text};
+ghost use Rattle.aom_debug_protocol.specs.declared.answer.Answer.TheVariants.{Fault};
 ghost use Rattle.aom_debug_symbols.specs.NameLists.{class_by, method_by};
-ghost use Rattle.aom_debug_symbols.specs.Answers.{active_by, answer_by, content_by, head_by, place_by, server_by, observer_by, shown_at, shown_spot as spot_shown, reports_class};
+ghost use Rattle.aom_debug_symbols.specs.Answers.{active_by, answer_by, content_by, head_by, place_by, reason_text, server_by, observer_by, shown_at, shown_spot as spot_shown, reports_class};
 
 use crate::SourceNames;
-use aom_debug_protocol::{Answer, CodeLocation, Content, Phase, Source};
+use aom_debug_protocol::{Answer, CodeLocation, Content, DebugFault, Phase, Source};
 use aom_text::Statement;
 use aom_transcript::Text;
 
@@ -170,7 +171,39 @@ fn classed_line(names: &SourceNames, answer: Answer) -> Option<NamedLine>
     Some(line)
 }
 
-/// What the line of an answer begins with, up to its statement, where it tells a class or a method. All others are as ever.
+/// Why a command is refused, in words, behind the end of the line that tells it.
+fn reason(fault: DebugFault) -> &'static [u8]
+    ensures text { result.now ≡ codes "\n# " ++ reason_text fault }
+    ensures short { length result.now ≤ 80 }
+{
+    match fault {
+        DebugFault::BadCommand => {
+            b"\n# no command: a wrong word, too few, too many, or a bad number; see help".as_slice()
+        }
+        DebugFault::NoSuch => {
+            b"\n# no such place, line, file, breakpoint or object, or a seventeenth breakpoint".as_slice()
+        }
+        DebugFault::Ended => b"\n# the run is over".as_slice(),
+        DebugFault::OutOfMemory => b"\n# there is no memory".as_slice(),
+        DebugFault::WriteFault => b"\n# the output takes no more".as_slice(),
+    }
+}
+
+/// A fault and its reason, where there is a text.
+fn fault_line(names: &SourceNames, fault: DebugFault) -> Option<NamedLine>
+    ensures some { IfSome result (λ line. line ≡ head_by names.now (Fault fault)) }
+    ensures none { IfNone result (answer_by names.now (Fault fault) ≡ answer_text (Fault fault)) }
+{
+    if !names.has_text() {
+        return None;
+    }
+    let mut line = NamedLine::new();
+    line.add_count(b"fault ", fault.number());
+    line.add(reason(fault));
+    Some(line)
+}
+
+/// What the line of an answer begins with, up to its statement, where it tells a class, a method or a fault. All others are as ever.
 pub fn named_line(names: &SourceNames, answer: Answer) -> Option<NamedLine>
     ensures some { IfSome result (λ line. line ≡ head_by names.now answer) }
     ensures none { IfNone result (answer_by names.now answer ≡ answer_text answer) }
@@ -181,6 +214,7 @@ pub fn named_line(names: &SourceNames, answer: Answer) -> Option<NamedLine>
         Answer::Break(spot) => add_at(&mut line, names, b"break ", spot),
         Answer::Frame(spot) | Answer::Ran(spot) => add_place(&mut line, names, spot),
         Answer::Operation(method, word) => add_operation(&mut line, names, method, word),
+        Answer::Fault(fault) => return fault_line(names, fault),
         other => return classed_line(names, other),
     }
     Some(line)

@@ -2,12 +2,14 @@
 ghost use Rattle.std.specs.Prelude.{◌≡◌, ℕ, List, []};
 ghost use Rattle.aom_text.specs.Numbers.{number_of};
 ghost use Rattle.aom_debug_protocol.specs.Lines.{pending_of};
-ghost use Rattle.aom_debug_symbols.specs.Commands.{command_by, is_mark, mark_at, mark_in, mark_named, mark_numbered, mark_said, mark_there, marked, numbered, or_named};
+ghost use Rattle.aom_debug_symbols.specs.Commands.{behind_colon, command_by, is_mark, line_of_file, line_said, mark_at, mark_by, mark_first, mark_in, mark_line, mark_named, mark_numbered, mark_said, mark_there, mark_words, marked, numbered, or_named};
 ghost use Rattle.aom_debug_symbols.specs.NameLists.{method_named};
 ghost use Rattle.aom_debug_protocol.specs.Commands.{command_said};
 
 use crate::SourceNames;
-use aom_debug_protocol::{CodeLocation, Command, DebugFault, Pending, read_command};
+use aom_debug_protocol::{
+    CodeLocation, Command, DebugFault, Pending, Verb, read_command, verb_named,
+};
 use aom_text::{Number, WordCursor};
 
 /// The most bytes of a line, its line feed aside.
@@ -26,24 +28,21 @@ fn numbered(number: usize) -> Number
     }
 }
 
-/// The command of that name at a place.
-fn mark_at(verb: &[u8], method: Number, place: Number) -> Result<Option<Command>, DebugFault>
-    ensures { result ≡ marked (mark_at verb.now method place) }
+/// That command at a place. No other takes one.
+fn mark_at(verb: Verb, method: Number, place: Number) -> Result<Option<Command>, DebugFault>
+    ensures { result ≡ marked (mark_at verb method place) }
 {
-    if verb == b"break".as_slice() {
-        Ok(Some(Command::Break(method, place)))
-    } else if verb == b"unbreak".as_slice() {
-        Ok(Some(Command::Unbreak(method, place)))
-    } else if verb == b"until".as_slice() {
-        Ok(Some(Command::Until(method, place)))
-    } else {
-        Err(DebugFault::BadCommand)
+    match verb {
+        Verb::Break => Ok(Some(Command::Break(method, place))),
+        Verb::Unbreak => Ok(Some(Command::Unbreak(method, place))),
+        Verb::Until => Ok(Some(Command::Until(method, place))),
+        _ => Err(DebugFault::BadCommand),
     }
 }
 
 /// At a place, if there is one.
-fn mark_there(verb: &[u8], spot: Option<CodeLocation>) -> Result<Option<Command>, DebugFault>
-    ensures { result ≡ mark_there verb.now spot }
+fn mark_there(verb: Verb, spot: Option<CodeLocation>) -> Result<Option<Command>, DebugFault>
+    ensures { result ≡ mark_there verb spot }
 {
     match spot {
         Some(spot) => mark_at(
@@ -58,10 +57,10 @@ fn mark_there(verb: &[u8], spot: Option<CodeLocation>) -> Result<Option<Command>
 /// In a line, if that is the number of one.
 fn mark_in(
     names: &SourceNames,
-    verb: &[u8],
+    verb: Verb,
     line: Option<u32>,
 ) -> Result<Option<Command>, DebugFault>
-    ensures { result ≡ mark_in names.now verb.now line }
+    ensures { result ≡ mark_in names.now verb line }
 {
     match line {
         Some(line) => mark_there(verb, names.spot_in(line)),
@@ -72,11 +71,11 @@ fn mark_in(
 /// At a place of the method of that name; or where none has it, at an instruction by its line.
 fn mark_named(
     names: &SourceNames,
-    verb: &[u8],
+    verb: Verb,
     name: &[u8],
     number: Number,
 ) -> Result<Option<Command>, DebugFault>
-    ensures { result ≡ mark_named names.now verb.now name.now (method_named names.now name.now) number }
+    ensures { result ≡ mark_named names.now verb name.now (method_named names.now name.now) number }
 {
     match names.method_named(name) {
         Some(method) => mark_at(verb, numbered(method), number),
@@ -87,11 +86,11 @@ fn mark_named(
 
 fn mark_numbered(
     names: &SourceNames,
-    verb: &[u8],
+    verb: Verb,
     name: &[u8],
     number: &[u8],
 ) -> Result<Option<Command>, DebugFault>
-    ensures { result ≡ mark_numbered names.now verb.now name.now (number_of number.now) }
+    ensures { result ≡ mark_numbered names.now verb name.now (number_of number.now) }
 {
     match Number::of(number) {
         Some(number) => mark_named(names, verb, name, number),
@@ -99,22 +98,103 @@ fn mark_numbered(
     }
 }
 
-/// Whether a command of that name takes a place.
-fn is_mark(verb: &[u8]) -> bool
-    ensures { result ≡ is_mark verb.now }
+/// The number behind a colon.
+fn behind_colon(rest: &[u8]) -> Option<Number>
+    ensures { result ≡ behind_colon rest.now }
 {
-    verb == b"break".as_slice() || verb == b"unbreak".as_slice() || verb == b"until".as_slice()
+    match rest {
+        [b':', digits @ ..] => Number::of(digits),
+        _ => None,
+    }
+}
+
+/// The number of FILE:LINE, where that is the name of the text.
+fn line_of_file(file: &[u8], word: &[u8]) -> Option<Number>
+    ensures { result ≡ line_of_file file.now word.now }
+{
+    match word.strip_prefix(file) {
+        Some(rest) => behind_colon(rest),
+        None => None,
+    }
+}
+
+/// The number of LINE, or of FILE:LINE.
+fn line_said(file: &[u8], word: &[u8]) -> Option<Number>
+    ensures { result ≡ line_said file.now word.now (number_of word.now) }
+{
+    match Number::of(word) {
+        Some(number) => Some(number),
+        None => line_of_file(file, word),
+    }
+}
+
+/// At the first place of the method of that name; or where none has it, at an instruction by its line.
+fn mark_first(names: &SourceNames, verb: Verb, word: &[u8]) -> Result<Option<Command>, DebugFault>
+    ensures { result ≡ mark_first names.now verb word.now (method_named names.now word.now) }
+{
+    match names.method_named(word) {
+        Some(method) => mark_at(verb, numbered(method), numbered(0)),
+        None => mark_line(names, verb, line_said(names.file(), word)),
+    }
+}
+
+fn mark_line(
+    names: &SourceNames,
+    verb: Verb,
+    number: Option<Number>,
+) -> Result<Option<Command>, DebugFault>
+    ensures { result ≡ mark_line names.now verb number }
+{
+    match number {
+        Some(number) => mark_in(names, verb, number.within(1, MAX_LINES)),
+        None => Err(DebugFault::NoSuch),
+    }
+}
+
+/// Whether a command takes a place.
+fn is_mark(verb: Verb) -> bool
+    ensures { result ≡ is_mark verb }
+{
+    matches!(verb, Verb::Break | Verb::Unbreak | Verb::Until)
+}
+
+/// What the words behind the name of such a command say.
+fn mark_words(
+    names: &SourceNames,
+    verb: Verb,
+    mut words: WordCursor,
+) -> Result<Option<Command>, DebugFault>
+    ensures { result ≡ mark_words names.now verb words.entry }
+{
+    match (words.next(), words.next()) {
+        (Some(word), None) => mark_first(names, verb, word),
+        (Some(name), Some(number)) if words.is_empty() => {
+            mark_numbered(names, verb, name, number)
+        }
+        _ => Err(DebugFault::BadCommand),
+    }
+}
+
+fn mark_by(
+    names: &SourceNames,
+    verb: Option<Verb>,
+    words: WordCursor,
+) -> Result<Option<Command>, DebugFault>
+    ensures { result ≡ mark_by names.now verb words.entry }
+{
+    match verb {
+        Some(verb) if is_mark(verb) => mark_words(names, verb, words),
+        _ => Err(DebugFault::BadCommand),
+    }
 }
 
 /// What the words of a line say by the names and the lines of a text.
 fn read_mark(names: &SourceNames, mut words: WordCursor) -> Result<Option<Command>, DebugFault>
     ensures { result ≡ mark_said names.now words.entry }
 {
-    match (words.next(), words.next(), words.next()) {
-        (Some(verb), Some(name), Some(number)) if words.is_empty() && is_mark(verb) => {
-            mark_numbered(names, verb, name, number)
-        }
-        _ => Err(DebugFault::BadCommand),
+    match words.next() {
+        Some(name) => mark_by(names, verb_named(name), words),
+        None => Err(DebugFault::BadCommand),
     }
 }
 

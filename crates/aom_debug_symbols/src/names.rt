@@ -3,8 +3,7 @@ ghost use Rattle.std.specs.Prelude.{◌≡◌, ◌≤◌, ◌^◌, IfSome, decim
 ghost use Rattle.std.specs.List.{position};
 ghost use Rattle.std.specs.Str.{bytes_eq};
 ghost use Rattle.aom_transcript.specs.Naming.{class_word, borrowed};
-ghost use Rattle.aom_debug_symbols.specs.NameLists.{class_by, method_by, method_named, statement_at, unnamed};
-ghost use Rattle.aom_debug_symbols.specs.Commands.{has_text};
+ghost use Rattle.aom_debug_symbols.specs.NameLists.{class_by, has_text, method_by, method_named, statement_at, unnamed};
 ghost use Rattle.aom_debug_symbols.specs.Lines.{spot_in};
 
 use crate::lines::spot_in;
@@ -16,12 +15,13 @@ use std::marker::Model;
 /// No name is longer than this.
 const LONGEST_NAME: usize = 32;
 
-/// The names of classes and of methods, that of number 0 first, and the text in which they stand.
+/// The names of classes and of methods, that of number 0 first, the text in which they stand, and the name of its file.
 #[derive(Drop)]
 pub struct SourceNames<'a> {
     classes: &'a [&'a [u8]],
     methods: &'a [&'a [u8]],
     text: &'a [u8],
+    file: &'a [u8],
 }
 
 impl<'a> Model for SourceNames<'a> {
@@ -31,7 +31,7 @@ impl<'a> Model for SourceNames<'a> {
 
     ghost Value = { NamesRecord };
 
-    ghost view = { λ n. record { classes = borrowed n.classes.now; methods = borrowed n.methods.now; text = n.text.now } };
+    ghost view = { λ n. record { classes = borrowed n.classes.now; methods = borrowed n.methods.now; text = n.text.now; file = n.file.now } };
 
     ghost invariant = { λ n. length n.text.now ≤ 2 ^ 20 };
 }
@@ -56,15 +56,21 @@ fn index_of(names: &[&[u8]], name: &[u8]) -> Option<usize>
 }
 
 impl<'a> SourceNames<'a> {
-    /// The names that stand in a text.
-    pub fn new(classes: &'a [&'a [u8]], methods: &'a [&'a [u8]], text: &'a [u8]) -> SourceNames<'a>
+    /// The names that stand in a text, and the name of its file.
+    pub fn new(
+        classes: &'a [&'a [u8]],
+        methods: &'a [&'a [u8]],
+        text: &'a [u8],
+        file: &'a [u8],
+    ) -> SourceNames<'a>
         requires { length text.now ≤ 2 ^ 20 }
-        ensures { result ≡ record { classes = borrowed classes.entry.now; methods = borrowed methods.entry.now; text = text.entry.now } }
+        ensures { result ≡ record { classes = borrowed classes.entry.now; methods = borrowed methods.entry.now; text = text.entry.now; file = file.entry.now } }
     {
         SourceNames {
             classes,
             methods,
             text,
+            file,
         }
     }
 
@@ -76,6 +82,7 @@ impl<'a> SourceNames<'a> {
             classes: &[],
             methods: &[],
             text: &[],
+            file: &[],
         }
     }
 
@@ -114,6 +121,13 @@ impl<'a> SourceNames<'a> {
         ensures { result ≡ spot_in self.now.text line }
     {
         spot_in(self.text, line)
+    }
+
+    /// The name of the text's file.
+    pub(crate) fn file(&self) -> &'a [u8]
+        ensures { result.now ≡ self.now.file }
+    {
+        self.file
     }
 
     pub(crate) fn has_text(&self) -> bool

@@ -124,10 +124,11 @@ pub fn explore<W: Sink, E: Sink>(
 }
 
 /// Runs an image under a script beside those natives as commands say, which come from a reader, and writes what they tell, by the names and the
-/// lines of its text. After so many reads that give no end it is a fault. Of a program without an image nothing is read.
+/// lines of its text, whose file has that name. After so many reads that give no end it is a fault. Of a program without an image nothing is read.
 pub fn debug<R: Reader, W: Sink, E: Sink>(
     alloc: Global,
     program: Program<'_>,
+    file: &[u8],
     script: &[u8],
     limit: u32,
     boxes: Vec<Box<dyn Native>>,
@@ -137,11 +138,13 @@ pub fn debug<R: Reader, W: Sink, E: Sink>(
     errors: &mut E,
 ) -> ExitStatus
     requires owed { OweNothing (λ b. (⟦<dyn Native as Native>⟧ b.vtable).owed b.value) boxes.items }
-    ensures { let given = reading R.given R.ended R.failed reader.old reader.new in Answers Plain program.entry script.now ((W.out out.new ≡ W.out out.old) × IsUnread given) (λ image text. DebugAnswersBy (debug_names text) image script.now limit (length boxes.items) reads given (over W.out W.failed out.old out.new)) (over E.out E.failed errors.old errors.new) result }
+    ensures { let given = reading R.given R.ended R.failed reader.old reader.new in Answers Plain program.entry script.now ((W.out out.new ≡ W.out out.old) × IsUnread given) (λ image text. DebugAnswersBy (debug_names file.now text) image script.now limit (length boxes.items) reads given (over W.out W.failed out.old out.new)) (over E.out E.failed errors.old errors.new) result }
 {
     match program.load(alloc) {
         Ok(loaded) => {
-            let found = try_debug_told(alloc, &loaded, script, limit, boxes, reader, reads, out);
+            let found = try_debug_told(
+                alloc, &loaded, file, script, limit, boxes, reader, reads, out,
+            );
             Telling::Plain.answer(alloc, found, &loaded, script, errors)
         }
         Err(fault) => Telling::Plain.refuse(alloc, &fault, program.text(), errors),

@@ -4,7 +4,7 @@ ghost use Rattle.aom_natives.specs.Owed.{OweNothing};
 ghost use Rattle.aom_commands.specs.Headline.{over};
 ghost use Rattle.aom_commands.specs.Unreported.{Unreported};
 ghost use Rattle.aom_debug.specs.Answers.{DebugAnswersBy};
-ghost use Rattle.aom_debug_symbols.specs.NameLists.{names_of};
+ghost use Rattle.aom_debug_symbols.specs.NameLists.{names_in};
 ghost use Rattle.aom_diagnostic_commands.specs.Debugged.{debug_names};
 ghost use Rattle.aom_debug.specs.SessionLoop.{reading};
 
@@ -17,11 +17,12 @@ use aom_natives::Native;
 use aom_transcript::Sink;
 use std::alloc::Global;
 
-/// Debugs an image by the names and the lines of its text, and leaves its fault to be told. The names are looked up before anything is read.
+/// Debugs an image by the names and the lines of its text, which is in that file, and leaves its fault to be told. The names are looked up before anything is read.
 fn try_debug_by_names<R: Reader, W: Sink>(
     alloc: Global,
     image: &[u8],
     text: &ImageText,
+    file: &[u8],
     script: &[u8],
     limit: u32,
     boxes: Vec<Box<dyn Native>>,
@@ -30,11 +31,11 @@ fn try_debug_by_names<R: Reader, W: Sink>(
     out: &mut W,
 ) -> Result<ExitStatus, Fault>
     requires owed { OweNothing (λ b. (⟦<dyn Native as Native>⟧ b.vtable).owed b.value) boxes.items }
-    ensures { Unreported (DebugAnswersBy (names_of text.now) image.now script.now limit (length boxes.items) reads (reading R.given R.ended R.failed reader.old reader.new) (over W.out W.failed out.old out.new)) result }
+    ensures { Unreported (DebugAnswersBy (names_in file.now text.now) image.now script.now limit (length boxes.items) reads (reading R.given R.ended R.failed reader.old reader.new) (over W.out W.failed out.old out.new)) result }
 {
     let classes = class_names(alloc, text.bytes())?;
     let methods = method_names(alloc, text.bytes())?;
-    let names = SourceNames::new(&classes, &methods, text.bytes());
+    let names = SourceNames::new(&classes, &methods, text.bytes(), file);
     try_debug(
         alloc, image, script, limit, names, boxes, reader, reads, out,
     )
@@ -44,6 +45,7 @@ fn try_debug_by_names<R: Reader, W: Sink>(
 pub fn try_debug_told<R: Reader, W: Sink>(
     alloc: Global,
     program: &LoadedProgram,
+    file: &[u8],
     script: &[u8],
     limit: u32,
     boxes: Vec<Box<dyn Native>>,
@@ -52,13 +54,14 @@ pub fn try_debug_told<R: Reader, W: Sink>(
     out: &mut W,
 ) -> Result<ExitStatus, Fault>
     requires owed { OweNothing (λ b. (⟦<dyn Native as Native>⟧ b.vtable).owed b.value) boxes.items }
-    ensures { Unreported (DebugAnswersBy (debug_names program.now.text) program.now.image script.now limit (length boxes.items) reads (reading R.given R.ended R.failed reader.old reader.new) (over W.out W.failed out.old out.new)) result }
+    ensures { Unreported (DebugAnswersBy (debug_names file.now program.now.text) program.now.image script.now limit (length boxes.items) reads (reading R.given R.ended R.failed reader.old reader.new) (over W.out W.failed out.old out.new)) result }
 {
     match program.text() {
         Some(text) => try_debug_by_names(
             alloc,
             program.image(),
             text,
+            file,
             script,
             limit,
             boxes,

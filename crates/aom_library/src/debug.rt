@@ -5,6 +5,7 @@ pub use aom_debug::{
 };
 pub use aom_debug_protocol::{
     Answer, AnswerLine, Branch, Breakpoints, ClientNumber, CodeLocation, Command, Content,
-    DebugFault, History, Outer, Path, Pending, Phase, Source, help_text, line_of, read_command,
+    DebugFault, History, Outer, Path, Pending, Phase, Source, Verb, ends_session, help_by,
+    help_text, line_of, may_repeat, read_command, verb_named,
 };
 pub use aom_memory::SliceReader;

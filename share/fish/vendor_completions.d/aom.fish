@@ -70,6 +70,7 @@ complete -c aom -n '__aom_at explore 1' -k -a '(__fish_complete_suffix .script)'
 complete -c aom -n '__aom_from explore 2' -a 'counter line delay' -d native
 complete -c aom -n __fish_use_subcommand -a debug -d 'Runs an image step by step, by commands from standard input; help tells them'
 complete -c aom -n '__fish_seen_subcommand_from debug' -l limit -d 'Ends a run after N dispatches, main'\''s not counted' -x
+complete -c aom -n '__fish_seen_subcommand_from debug' -l prompt -d 'Writes a prompt before each line is read; an empty line repeats the last step'
 complete -c aom -n '__fish_seen_subcommand_from debug' -l text -d 'The text that the image was made of, to tell things by its names and lines' -r -k -a '(__fish_complete_suffix .aom)'
 complete -c aom -n '__fish_seen_subcommand_from debug' -l asm -d 'Takes an assembly text in place of the image, and assembles it first'
 complete -c aom -n '__fish_seen_subcommand_from debug' -l source -d 'Takes a source in place of the image, and compiles it first'

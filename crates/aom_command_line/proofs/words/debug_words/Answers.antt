@@ -7,4 +7,5 @@ use Rattle.aom_command_line.proofs.words.debug_words.Goals as goal
 pub returns-clause-asks : goal.returns-clause-asks
 returns-clause-asks c =
     let rows = rows_of (found_of c.args.own.now) in
-    (refl, c.in_ok-run_words.ensures.asks, subst (λ kind. AsksText rows true kind c.in_ok-text_of.field-0) (sym c.in_ok-run_words.ensures.kind) c.in_ok-text_of.ensures.asks)
+    let named = subst (λ kind. AsksText rows true kind c.in_ok-text_of.field-0) (sym c.in_ok-run_words.ensures.kind) c.in_ok-text_of.ensures.asks in
+    (refl, c.in_ok-run_words.ensures.asks, c.is_set-prompt.ensures, named)

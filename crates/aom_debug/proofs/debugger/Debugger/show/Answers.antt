@@ -70,11 +70,11 @@ returns-in-Clock-clause-err g c =
     (rw c.parts-in-Clock.ensures.parts at c.report_clock.ensures.err))
 
 pub returns-in-Help-clause-ok : goal.returns-in-Help-clause-ok
-returns-in-Help-clause-ok g c = rw c.in-Help.is (IfOk-weaker c.send.result _ _ (λ done sends s st. (_, refl, sends)) (rw c.help_text.ensures at c.send.ensures.ok))
+returns-in-Help-clause-ok g c = rw c.in-Help.is (IfOk-weaker c.send.result _ _ (λ done sends s st. (_, refl, sends)) (rw c.help_by.ensures at c.send.ensures.ok))
 
 pub returns-in-Help-clause-err : goal.returns-in-Help-clause-err
 returns-in-Help-clause-err g c = rw c.in-Help.is (IfErr-weaker c.send.result _ _
-    (λ fault part. (part.reported, part.fails, (λ s st. (_, refl, (part.sent, part.out))))) (rw c.help_text.ensures at c.send.ensures.err))
+    (λ fault part. (part.reported, part.fails, (λ s st. (_, refl, (part.sent, part.out))))) (rw c.help_by.ensures at c.send.ensures.err))
 
 pub returns-in-Frames-clause-ok : goal.returns-in-Frames-clause-ok
 returns-in-Frames-clause-ok g c = rw c.in-Frames.is (IfOk-weaker c.show_frames.result _ _ (λ done reports s st.
