@@ -50,7 +50,7 @@ Names before after names = after.lacks ≡ false → after.names.items ≡ befor
 
 -- a name of a method's register, by the lines of a text in which the method's first instruction has this one
 abbrev pub at_line : ℕ → NamedRegister → NamedRegister
-at_line line n = record { name = n.name; register = n.register; from = line + n.from; to = line + n.to }
+at_line line n = record { name = n.name; token = n.token; register = n.register; from = line + n.from; to = line + n.to }
 
 abbrev pub code_names : Option Code → List NamedRegister
 code_names None = []

@@ -13,6 +13,8 @@ pub struct LabelId(pub usize);
 #[derive(Clone, Copy)]
 pub struct NamedRegister<'a> {
     pub name: &'a [u8],
+    /// The token that declares it.
+    pub token: u32,
     pub register: usize,
     pub from: usize,
     pub to: usize,

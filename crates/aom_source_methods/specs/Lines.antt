@@ -17,7 +17,7 @@ pub record EndsWith (lines : List Line) (operation : Operation) (token : ℕ) : 
 
 -- a local is the name of its register
 abbrev pub name_of : (from to : ℕ) → Local → NamedRegister
-name_of from to local = record { name = local.name; register = local.register; from = from; to = to }
+name_of from to local = record { name = local.name; token = local.token; register = local.register; from = from; to = to }
 
 -- the names that a block's locals give to their registers: from where they are declared, or later
 abbrev pub names_of : (from to : ℕ) → List Bound → List NamedRegister

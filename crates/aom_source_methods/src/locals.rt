@@ -195,6 +195,7 @@ fn name_register<'a>(code: &mut Code<'a>, local: Local<'a>, from: usize) -> bool
 {
     let named = NamedRegister {
         name: local.name,
+        token: local.token,
         register: local.register,
         from,
         to: code.lines.len(),
