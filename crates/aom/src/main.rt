@@ -20,7 +20,7 @@ use aom_source_commands::{Emit, compile_source, script_of_source, show_source};
 use aom_transcript::{Sink, write_text};
 use program::{ProgramFiles, Unready, compiled};
 use std::env;
-use std::io::{self, BufWriter, Write};
+use std::io::{self, BufWriter, Stdin, Stdout, Write};
 use std::process::ExitCode;
 
 /// The most reads of standard input.
@@ -316,13 +316,7 @@ impl<'a> Purpose<'a> {
                 alloc, program, telling, names, script, limit, boxes, out, errors,
             ),
             Purpose::Debug { file, prompt } => {
-                let mut out = Output::new(rt.stdout());
-                let prompts = if prompt {
-                    Some(Output::new(rt.stdout()))
-                } else {
-                    None
-                };
-                let mut commands = Commands::new(Input::new(rt.stdin()), prompts);
+                let (mut out, mut commands) = (Output::new(rt.stdout()), commands_of(rt, prompt));
                 debug(
                     alloc,
                     program,
@@ -338,6 +332,16 @@ impl<'a> Purpose<'a> {
             }
         }
     }
+}
+
+/// The commands that come from standard input, each behind a prompt where one is asked for.
+fn commands_of(rt: &HostRuntime, prompt: bool) -> Commands<Input<Stdin>, Output<Stdout>> {
+    let prompts = if prompt {
+        Some(Output::new(rt.stdout()))
+    } else {
+        None
+    };
+    Commands::new(Input::new(rt.stdin()), prompts)
 }
 
 /// Reads the files of a run, and runs the program beside the natives that the words name.

@@ -45,7 +45,7 @@ impl<'s, 't, 'a> Generator<'s, 't, 'a> {
     }
 
     /// What is wrong with a name that is no local which owns, where one is wanted.
-    pub fn no_owner_fault(&self, name: &[u8]) -> FaultKind {
+    pub fn no_owner_fault(&self, name: &'a [u8]) -> FaultKind {
         let is_word = self.local(name).is_some()
             || self.word_number(name).is_some()
             || self.program.constants.value(name).is_some();

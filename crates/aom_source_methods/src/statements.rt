@@ -440,7 +440,7 @@ impl<'s, 't, 'a> Generator<'s, 't, 'a> {
     /// An assertion leaves with a code of its own where it does not hold.
     fn begin_assert(&mut self, at: usize) -> Result<(), Fault<'a>> {
         let test = at.saturating_add(1);
-        let code = self.assertion_code(at)?;
+        let code = self.assertion_code(at);
         let frame = self.frame(at, Part::Fail(code), None)?;
         self.begin_test(
             frame,
@@ -451,14 +451,8 @@ impl<'s, 't, 'a> Generator<'s, 't, 'a> {
     }
 
     /// -1000 for the first assertion of a source, -1001 for the next, and so on.
-    fn assertion_code(&self, at: usize) -> Result<i64, Fault<'a>> {
-        let mut code: i64 = -1000;
-        for before in 0..at.min(self.source.items.len()) {
-            if self.source.action(before) == Action::AssertBegin {
-                code = code.saturating_sub(1);
-            }
-        }
-        Ok(code)
+    fn assertion_code(&self, at: usize) -> i64 {
+        -1000 - self.source.assertions_before(at) as i64
     }
 
     /// Whether no way leads out of a block: it ends with a return or a leave, or with an `if` both of whose ways do.

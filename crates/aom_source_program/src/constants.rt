@@ -3,20 +3,16 @@ use crate::fault::{Fault, FaultKind};
 use crate::source::Source;
 use aom_source_syntax::Action;
 use std::alloc::Global;
+use std::collections::{BTreeMap, BTreeSet};
 
-/// A named number. A member of an enum has the enum's name before its own.
-#[derive(Clone, Copy)]
-pub struct Constant<'a> {
-    pub of_enum: Option<&'a [u8]>,
-    pub name: &'a [u8],
-    pub value: i64,
-}
+/// How a constant is named: a member of an enum by the enum's name and its own.
+type ConstantName<'a> = (Option<&'a [u8]>, &'a [u8]);
 
-/// All constants of a source, in its order.
+/// The constants of a source, and its enums.
 #[derive(Drop)]
 pub struct Constants<'a> {
-    constants: Vec<Constant<'a>>,
-    enums: Vec<&'a [u8]>,
+    values: BTreeMap<ConstantName<'a>, i64, Global>,
+    enums: BTreeSet<&'a [u8], Global>,
 }
 
 /// The least and the greatest number that a word can be written as.
@@ -28,36 +24,24 @@ impl<'a> Constants<'a> {
     /// None.
     pub fn new(alloc: Global) -> Constants<'a> {
         Constants {
-            constants: Vec::new(alloc),
-            enums: Vec::new(alloc),
+            values: BTreeMap::new(alloc),
+            enums: BTreeSet::new(alloc),
         }
     }
 
     /// The value of a constant.
-    pub fn value(&self, name: &[u8]) -> Option<i64> {
-        for constant in &self.constants {
-            if constant.of_enum.is_none() && constant.name == name {
-                return Some(constant.value);
-            }
-        }
-        None
+    pub fn value(&self, name: &'a [u8]) -> Option<i64> {
+        self.values.get(&(None, name)).copied()
     }
 
     /// The value of a member of an enum.
-    pub fn member(&self, of_enum: &[u8], name: &[u8]) -> Option<i64> {
-        for constant in &self.constants {
-            if let Some(found) = constant.of_enum {
-                if found == of_enum && constant.name == name {
-                    return Some(constant.value);
-                }
-            }
-        }
-        None
+    pub fn member(&self, of_enum: &'a [u8], name: &'a [u8]) -> Option<i64> {
+        self.values.get(&(Some(of_enum), name)).copied()
     }
 
     /// Whether it is an enum's name.
-    pub fn is_enum(&self, name: &[u8]) -> bool {
-        self.enums.iter().any(|found| *found == name)
+    pub fn is_enum(&self, name: &'a [u8]) -> bool {
+        self.enums.contains(&name)
     }
 
     /// Reads all constants and enums of a source.
@@ -85,11 +69,7 @@ impl<'a> Constants<'a> {
             return Err(source.fault(FaultKind::DoubleName, named).about(name));
         }
         let value = self.constant(alloc, source, at.saturating_add(2))?;
-        self.constants.push(Constant {
-            of_enum: None,
-            name,
-            value,
-        })?;
+        self.values.insert((None, name), value)?;
         Ok(())
     }
 
@@ -105,7 +85,7 @@ impl<'a> Constants<'a> {
         if self.is_enum(of_enum) {
             return Err(source.fault(FaultKind::DoubleName, named).about(of_enum));
         }
-        self.enums.push(of_enum)?;
+        self.enums.insert(of_enum)?;
         let mut next: i64 = 0;
         for member in at..source.partner(at) {
             if source.action(member) != Action::EnumMember {
@@ -120,11 +100,7 @@ impl<'a> Constants<'a> {
                 next = self.constant(alloc, source, value)?;
             }
             in_range(source, member, next)?;
-            self.constants.push(Constant {
-                of_enum: Some(of_enum),
-                name,
-                value: next,
-            })?;
+            self.values.insert((Some(of_enum), name), next)?;
             next = next.saturating_add(1);
         }
         Ok(())

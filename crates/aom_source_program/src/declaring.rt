@@ -96,7 +96,7 @@ impl<'s, 't, 'a> Declaring<'s, 't, 'a> {
     }
 
     /// What is wrong with one class more of that name and kind.
-    fn class_fault(&self, name: &[u8], kind: ClassKind) -> Option<FaultKind> {
+    fn class_fault(&self, name: &'a [u8], kind: ClassKind) -> Option<FaultKind> {
         let classes = &self.program.classes;
         if self.program.class_named(name).is_some() || self.program.constants.is_enum(name) {
             return Some(FaultKind::DoubleName);

@@ -15,7 +15,7 @@ mod roles;
 mod source;
 
 pub use class::{Class, ClassId, ClassKind, Field};
-pub use constants::{Constant, Constants};
+pub use constants::Constants;
 pub use declaring::declare;
 pub use fault::{Fault, FaultKind};
 pub use method::{Body, Method, MethodId, Parameter, Role, Thing, ValueKind};

@@ -10,6 +10,8 @@ pub struct Source<'t, 'a> {
     pub tokens: &'t Tokens<'a>,
     pub items: &'t [Item],
     partners: Vec<usize>,
+    /// The items at which assertions begin, in their order.
+    assertions: Vec<usize>,
 }
 
 /// Whether an item begins or ends a part.
@@ -164,10 +166,14 @@ impl<'t, 'a> Source<'t, 'a> {
         items: &'t [Item],
     ) -> Result<Source<'t, 'a>, Fault<'a>> {
         let mut partners = Vec::with_capacity(alloc, items.len())?;
+        let mut assertions: Vec<usize> = Vec::new(alloc);
         let mut open: Vec<usize> = Vec::new(alloc);
         for at in 0..items.len() {
             partners.push(at)?;
             let action = items[at].action;
+            if action == Action::AssertBegin {
+                assertions.push(at)?;
+            }
             match side_of(action) {
                 Side::Begins => open.push(at)?,
                 Side::Ends => {
@@ -187,6 +193,7 @@ impl<'t, 'a> Source<'t, 'a> {
             tokens,
             items,
             partners,
+            assertions,
         })
     }
 
@@ -212,6 +219,11 @@ impl<'t, 'a> Source<'t, 'a> {
             Some(partner) => *partner,
             None => at,
         }
+    }
+
+    /// How many assertions begin before the item at a place.
+    pub fn assertions_before(&self, at: usize) -> usize {
+        self.assertions.partition_point(|begin| *begin < at)
     }
 
     /// The name at the item at a place.
