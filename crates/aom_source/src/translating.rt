@@ -16,16 +16,16 @@ use aom_image::{ClassNumber, Image};
 use aom_link_conditions::LinkFault;
 use aom_linker::{Linked, link};
 use aom_source_methods::add_helpers;
-use aom_source_program::{ClassId, Fault, FaultKind, Program, Source, declare, resolve};
+use aom_source_program::{
+    ClassId, Fault, FaultKind, MOST_METHODS, Program, Source, declare, resolve,
+};
 use aom_source_syntax::read_program;
 use aom_source_tokens::Tokens;
 use aom_text::{AsmFault, AsmFaultKind};
 use aom_verify::{Checked, check};
 use std::alloc::{AllocError, Global};
 
-/// The most methods of an image, and the most bytes of its text.
-const MOST_METHODS: usize = 1024;
-
+/// The most bytes of an image's text.
 const MOST_BYTES: usize = 1 << 20;
 
 /// What a source is translated to: a text with its origins, and the image that it denotes.

@@ -15,6 +15,9 @@ const MOST_SERVERS: usize = 8;
 
 const MOST_LETTERS: usize = 32;
 
+/// The most methods of an image.
+pub const MOST_METHODS: usize = 1024;
+
 /// The program that a source declares, whose classes are not put into order yet.
 pub fn declare<'a>(alloc: Global, source: &Source<'_, 'a>) -> Result<Program<'a>, Fault<'a>> {
     let constants = Constants::read(alloc, source)?;
@@ -335,6 +338,9 @@ impl<'s, 't, 'a> Declaring<'s, 't, 'a> {
             return Err(self.source.fault(FaultKind::DoubleName, begin).about(name));
         }
         check_parameters(&method)?;
+        if MOST_METHODS <= id.0 {
+            return Err(Fault::at(FaultKind::TooManyMethods, method.token).about(name));
+        }
         self.program.methods.push(method)?;
         if role == Role::Main {
             self.program.main = Some(id);

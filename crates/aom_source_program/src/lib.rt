@@ -16,7 +16,7 @@ mod source;
 
 pub use class::{Class, ClassId, ClassKind, Field};
 pub use constants::Constants;
-pub use declaring::declare;
+pub use declaring::{MOST_METHODS, declare};
 pub use fault::{Fault, FaultKind};
 pub use method::{Body, Method, MethodId, Parameter, Role, Thing, ValueKind};
 pub use program::Program;
