@@ -126,7 +126,7 @@ impl<'s, 't, 'a> Generator<'s, 't, 'a> {
         self.translate_body(method.body)?;
         self.token = method.end_token;
         self.end_method(method.gives, method.end_token)?;
-        if let Some(block) = self.scopes.last().copied() {
+        if let (Body::Block { .. }, Some(block)) = (method.body, self.scopes.last().copied()) {
             self.name_registers(block);
         }
         self.translate_deferred()?;
