@@ -11,6 +11,7 @@ use aom_source_program::{
 };
 use aom_source_states::{Notes, OwnerId, State, Way};
 use std::alloc::Global;
+use std::collections::VecDeque;
 
 /// A parameter or local, or what is computed on the way.
 #[derive(Clone, Copy)]
@@ -103,7 +104,7 @@ pub struct Generator<'s, 't, 'a> {
     pub token: u32,
     pub loops: Vec<OpenLoop>,
     pub regions: Vec<Region<'a>>,
-    pub deferred: Vec<Deferred<'a>>,
+    pub deferred: VecDeque<Deferred<'a>>,
     pub summary: Summary<'a>,
     /// Methods that have to be translated before this one.
     pub needs: Vec<MethodId>,

@@ -236,7 +236,7 @@ impl<'s, 't, 'a> Generator<'s, 't, 'a> {
             item: self.item,
             code,
         };
-        let is_done = self.deferred.push(deferred).is_ok();
+        let is_done = self.deferred.push_back(deferred).is_ok();
         self.want_memory(is_done);
     }
 

@@ -11,6 +11,7 @@ use aom_source_program::{
 use aom_source_states::{
     Fill, MessageState, Notes, OwnerId, RequestStates, SiteKind, State, Status,
 };
+use std::collections::VecDeque;
 
 /// A method that has been translated.
 #[derive(Drop)]
@@ -111,7 +112,7 @@ impl<'s, 't, 'a> Generator<'s, 't, 'a> {
             token: method.token,
             loops: Vec::new(alloc),
             regions: Vec::new(alloc),
-            deferred: Vec::new(alloc),
+            deferred: VecDeque::new(alloc),
             summary: Summary::new(alloc, begin),
             needs: Vec::new(alloc),
             lacking: None,
@@ -373,10 +374,9 @@ impl<'s, 't, 'a> Generator<'s, 't, 'a> {
     /// The blocks that stand at the method's end.
     fn translate_deferred(&mut self) -> Result<(), Fault<'a>> {
         for _ in 0..=self.source.items.len() {
-            if self.deferred.is_empty() {
+            let Some(next) = self.deferred.pop_front() else {
                 return Ok(());
-            }
-            let next = self.deferred.remove(0);
+            };
             self.translate_late(next)?;
         }
         Err(Fault::internal())
