@@ -1,5 +1,5 @@
 -- Where the lines of a text that was written come from, a token of the source each, and the names that registers have in them.
-use Rattle.std.specs.Prelude.{List, [], ◌∷◌, ◌++◌, ℕ, ◌+◌, ◌==◌, ◌≡◌, Option, Some, None, count_by, false, flat_map, get_or, length, map}
+use Rattle.std.specs.Prelude.{List, [], ◌∷◌, ◌++◌, ℕ, ◌+◌, ◌==◌, ◌≡◌, ◌≤◌, ◌<◌, Option, Some, None, count_by, false, flat_map, get_or, length, map, true}
 use Rattle.aom_source_code.specs.declared.code.Code.{Code}
 use Rattle.aom_source_code.specs.declared.code.NamedRegister.{NamedRegister}
 use Rattle.aom_source_program.specs.declared.class.Class.{Class}
@@ -7,6 +7,8 @@ use Rattle.aom_source_program.specs.declared.class.ClassId.{ClassId}
 use Rattle.aom_source_program.specs.declared.method.Method.{Method}
 use Rattle.aom_source_program.specs.declared.method.MethodId.{MethodId}
 use Rattle.aom_source_program.specs.declared.program.Program.{Program}
+use Rattle.aom_source_scopes.specs.Scopes.{holds_at, is_declared}
+use Rattle.aom_source_tokens.specs.Tokens.{A_name, Source, token_at}
 use Rattle.aom_source.specs.declared.writing.Origin.{Origin}
 use Rattle.aom_source.specs.declared.writing.Writing.{Writing}
 
@@ -72,3 +74,9 @@ method_names codes line (id ∷ ids) = names_of_method codes line id ++ method_n
 -- those of a program, whose methods come behind the header and the classes
 abbrev pub program_names : Program → List (Option Code) → List MethodId → List NamedRegister
 program_names program codes order = method_names codes (length program.class_order.items + 1) order
+
+-- a name of a register is one that a token of the source declares, and each line that has it comes of a token in its scope
+pub record IsNamed (s : Source) (origins : List Origin) (n : NamedRegister) : Type 0 where
+  pub name : (token_at s n.token).word ≡ A_name n.name.now
+  pub declared : is_declared s n.token ≡ true
+  pub holds : (line : ℕ) → n.from ≤ line → line < n.to → holds_at s n.token (get_or (tokens_of origins) line 0) ≡ true

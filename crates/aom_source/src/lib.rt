@@ -8,6 +8,7 @@ mod labels;
 mod naming;
 mod ordering;
 mod refusal;
+mod scoping;
 mod text;
 mod translating;
 mod writing;

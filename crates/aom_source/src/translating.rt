@@ -2,13 +2,14 @@
 ghost use Rattle.std.specs.Prelude.{◌≡◌, All, IfErr, IfOk, List, Ok, length, min, ℕ};
 ghost use Rattle.aom_asm.specs.Denoted.{denoted};
 ghost use Rattle.aom_source.specs.Budgets.{IsCostOfMain};
-ghost use Rattle.aom_source.specs.Map.{line_count};
+ghost use Rattle.aom_source.specs.Map.{IsNamed, line_count};
 ghost use Rattle.aom_source.specs.Refusals.{IsToldIn};
 
 use crate::driving::Driving;
 use crate::labels::name_methods;
 use crate::ordering::{listed_methods, order_methods, quiet_methods};
 use crate::refusal::Refusal;
+use crate::scoping::are_named;
 use crate::writing::{Budgets, Parts, Written, write_program};
 use aom_asm::assemble;
 use aom_budget::Figures;
@@ -53,6 +54,7 @@ pub fn translate<'a>(
 ) -> Result<Translation<'a>, Vec<Refusal<'a>>>
     ensures image { IfOk result (λ t. denoted t.written.text.items ≡ Ok t.image) }
     ensures lines { IfOk result (λ t. line_count t.written.text.items ≡ length t.written.origins.items) }
+    ensures names { IfOk result (λ t. All (IsNamed tokens.now t.written.origins.items) t.written.names.items) }
     ensures places { IfErr result (λ refusals. All (IsToldIn tokens.now.bytes) refusals.items) }
 {
     let written = match written_of(alloc, tokens) {
@@ -86,6 +88,7 @@ fn alone<'a>(alloc: Global, refusal: Refusal<'a>) -> Vec<Refusal<'a>>
 
 fn written_of<'a>(alloc: Global, tokens: &Tokens<'a>) -> Result<Written<'a>, Vec<Refusal<'a>>>
     ensures lines { IfOk result (λ w. line_count w.text.items ≡ length w.origins.items) }
+    ensures names { IfOk result (λ w. All (IsNamed tokens.now w.origins.items) w.names.items) }
     ensures places { IfErr result (λ refusals. All (IsToldIn tokens.now.bytes) refusals.items) }
 {
     let items = match read_program(alloc, tokens) {
@@ -97,8 +100,25 @@ fn written_of<'a>(alloc: Global, tokens: &Tokens<'a>) -> Result<Written<'a>, Vec
         Err(fault) => return Err(alone(alloc, Refusal::of_fault(tokens, fault))),
     };
     match translate_source(alloc, &source) {
-        Ok(written) => Ok(written),
+        Ok(written) => named(alloc, tokens, written),
         Err(faults) => Err(refusals_of(alloc, tokens, &faults)),
+    }
+}
+
+/// What was written, if its names of registers are those of the source: else the fault is the translator's own.
+fn named<'a>(
+    alloc: Global,
+    tokens: &Tokens<'a>,
+    written: Written<'a>,
+) -> Result<Written<'a>, Vec<Refusal<'a>>>
+    ensures same { IfOk result (λ w. w ≡ written.entry) }
+    ensures names { IfOk result (λ w. All (IsNamed tokens.now w.origins.items) w.names.items) }
+    ensures places { IfErr result (λ refusals. All (IsToldIn tokens.now.bytes) refusals.items) }
+{
+    match are_named(alloc, tokens, &written) {
+        Ok(true) => Ok(written),
+        Ok(false) => Err(alone(alloc, Refusal::of_fault(tokens, Fault::internal()))),
+        Err(_) => Err(alone(alloc, Refusal::OutOfMemory)),
     }
 }
 

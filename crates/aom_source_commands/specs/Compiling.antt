@@ -1,9 +1,10 @@
 -- What has come of a source.
-use Rattle.std.specs.Prelude.{List, ℕ, ◌≡◌, length, Ok}
+use Rattle.std.specs.Prelude.{All, List, ℕ, ◌≡◌, length, Ok}
 use Rattle.aom_image.specs.Image.{Image}
 use Rattle.aom_asm.specs.Denoted.{denoted}
-use Rattle.aom_source.specs.Map.{line_count}
+use Rattle.aom_source.specs.Map.{IsNamed, line_count}
 use Rattle.aom_source.specs.declared.writing.Written.{Written}
+use Rattle.aom_source_tokens.specs.Tokens.{tokens_of}
 use Rattle.aom_source_tokens.specs.declared.tokens.Tokens.{Tokens}
 use Rattle.aom_source_commands.specs.declared.compiling.Compiled.{Compiled}
 use Rattle.aom_source_commands.specs.declared.compiling.Compiled.TheVariants.{Text, Refused}
@@ -17,14 +18,16 @@ abbrev pub IsOutputOf : Emit → Tokens → Written → List ℕ → Type 0
 IsOutputOf emits.Text tokens written text = text ≡ written.text.items
 IsOutputOf emits.Map tokens written text = text ≡ map_text tokens written.origins.items written.names.items
 
--- it is that of a text that denotes an image, each of whose lines has a token of the source
+-- it is that of a text that denotes an image, each of whose lines has a token of the source; the names are those that the source declares, where they hold
 pub record IsOutput (emit : Emit) (source text : List ℕ) : Type 0 where
   pub tokens : Tokens
   pub of_source : tokens.bytes ≡ source
+  pub read : tokens_of source ≡ Ok (tokens.tokens, tokens.end)
   pub written : Written
   pub image : Image
   pub denotes : denoted written.text.items ≡ Ok image
   pub lines : line_count written.text.items ≡ length written.origins.items
+  pub names : All (IsNamed tokens written.origins.items) written.names.items
   pub is : IsOutputOf emit tokens written text
 
 -- what was asked for; what is told of the source begins with a place of it

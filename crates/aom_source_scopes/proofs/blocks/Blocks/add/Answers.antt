@@ -1,0 +1,10 @@
+-- The blocks with one token more before them.
+use Rattle.std.proofs.Common.{rules, ◌≡◌, ◌∙◌, sym, ap, length}
+use Rattle.aom_source_tokens.specs.Tokens.{word_of}
+use Rattle.aom_source_scopes.specs.Blocks.{closers_from, innermost, next_from}
+use Rattle.aom_source_scopes.proofs.Tables.{added}
+use Rattle.aom_source_scopes.proofs.blocks.Blocks.add.Goals as goal
+
+-- src/blocks.rt:48:5
+pub returns : goal.returns
+returns c = λ t ts is so. added c.args.self.now (record { closers = c.turn.new.braces; own = c.push-2.new.self; next = c.push.new.self }) (word_of c.args.kind) t ts is so (search rules) (search rules) (search rules)

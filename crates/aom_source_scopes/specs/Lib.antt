@@ -1,0 +1,4 @@
+pub mod Blocks
+pub mod Scopes
+pub mod Tables
+pub mod Words
