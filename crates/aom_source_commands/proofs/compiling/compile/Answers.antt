@@ -9,10 +9,12 @@ returns-in-Ok-translate c =
       compiled = record {
         tokens = c.in-Ok.tokens;
         of_source = search rules;
+        read = search rules;
         written = c.in-Ok-translate.translation.written;
         image = c.in-Ok-translate.translation.image;
         denotes = made.image;
         lines = made.lines;
+        names = made.names;
         is = c.in_ok-output_of-in-Ok-translate.ensures;
       };
     }
