@@ -452,7 +452,8 @@ impl<'s, 't, 'a> Generator<'s, 't, 'a> {
 
     /// -1000 for the first assertion of a source, -1001 for the next, and so on.
     fn assertion_code(&self, at: usize) -> i64 {
-        -1000 - self.source.assertions_before(at) as i64
+        let before = i64::try_from(self.source.assertions_before(at)).unwrap_or(i64::MAX);
+        (-1000_i64).saturating_sub(before)
     }
 
     /// Whether no way leads out of a block: it ends with a return or a leave, or with an `if` both of whose ways do.
