@@ -1,5 +1,5 @@
 -- What holds of each name so far, and of the next.
-use Rattle.std.proofs.Common.{◌≡◌, ◌∙◌, ◌<◌, ◌≤◌, ◌⊎◌, inl, inr, List, ℕ, ◌+◌, ap, arith, sym, subst, get_or, length}
+use Rattle.std.proofs.Common.{◌≡◌, ◌∙◌, ◌<◌, ◌≤◌, ◌⊎◌, inl, inr, List, ℕ, ◌+◌, ap, arith, subst, get_or, length}
 use Rattle.std.proofs.lemmas.Bool.{cases_lt}
 use Rattle.std.proofs.lemmas.List.{get_or_default}
 use Rattle.aom_source_code.specs.declared.code.NamedRegister.{NamedRegister}

@@ -1,7 +1,6 @@
 -- The blocks with one token more before them.
-use Rattle.std.proofs.Common.{rules, ◌≡◌, ◌∙◌, sym, ap, length}
+use Rattle.std.proofs.Common.{rules}
 use Rattle.aom_source_tokens.specs.Tokens.{word_of}
-use Rattle.aom_source_scopes.specs.Blocks.{closers_from, innermost, next_from}
 use Rattle.aom_source_scopes.proofs.Tables.{added}
 use Rattle.aom_source_scopes.proofs.blocks.Blocks.add.Goals as goal
 

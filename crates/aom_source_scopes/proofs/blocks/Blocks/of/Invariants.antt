@@ -1,5 +1,5 @@
 -- The blocks so far are those of so many last tokens.
-use Rattle.std.proofs.Common.{◌≡◌, ◌-◌, drop, length}
+use Rattle.std.proofs.Common.{◌-◌, drop, length}
 use Rattle.aom_source_scopes.specs.Tables.{AreOf}
 use Rattle.aom_source_scopes.proofs.blocks.Blocks.of.Given as goal
 
