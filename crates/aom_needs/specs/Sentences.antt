@@ -1,7 +1,7 @@
 -- The sentence that tells what an instruction needs and what is there instead.
 use Rattle.std.specs.Prelude.{ℕ, Bool, true, false, cond, ◌==◌, List, [], ◌∷◌, ◌++◌, Option, Some, None, codes, decimal, length, slice_get}
 use Rattle.aom_image.specs.Image.{Image}
-use Rattle.aom_image.specs.Views.{arguments_of, has, method_class}
+use Rattle.aom_image.specs.Views.{arguments_of, has, instr_at, method_class}
 use Rattle.aom_image.specs.declared.class.ClassKind.{ClassKind}
 use Rattle.aom_image.specs.declared.class.ClassKind.TheVariants.{Plain, Active, Server, Session}
 use Rattle.aom_image.specs.declared.class.Provider.{Provider}
@@ -44,10 +44,13 @@ kind_clause Null = codes "; it is null"
 kind_clause (Own t a) = codes "; it owns " ++ thing_words t
 kind_clause (Maybe t a) = codes "; it is null, or owns " ++ thing_words t
 
+abbrev pub pushed_clause : CleanupEntry → List ℕ
+pushed_clause Operation = codes "; it is an operation"
+pushed_clause (An_object c a) = codes "; it owns " ++ thing_words (Object c)
+
 abbrev pub entry_clause : Option CleanupEntry → List ℕ
 entry_clause None = codes "; it is not there"
-entry_clause (Some Operation) = codes "; it is an operation"
-entry_clause (Some (An_object c a)) = codes "; it owns an object of class " ++ decimal c
+entry_clause (Some e) = pushed_clause e
 
 -- ---- registers
 
@@ -106,8 +109,15 @@ abbrev pub may_be_object : Kind → Bool
 may_be_object (Maybe t a) = is_object t
 may_be_object _ = false
 
-abbrev pub owner_need : Image → ℕ → AbstractState → (what : List ℕ) → Operand → (would_do : Bool) → List ℕ
-owner_need p m sh what x would_do = what ++ (operand_words x ++ (sure_words (held p m sh x) ++ (operand_clause p m sh x ++ ask_words would_do x)))
+-- where an owner is wanted, and what is there
+abbrev pub owner_place : Image → ℕ → AbstractState → Operand → (would_do : Bool) → List ℕ
+owner_place p m sh x would_do = operand_words x ++ (sure_words (held p m sh x) ++ (operand_clause p m sh x ++ ask_words would_do x))
+
+abbrev pub owner_need : Image → ℕ → AbstractState → Operand → Thing → List ℕ
+owner_need p m sh x t = thing_words t ++ owner_place p m sh x (may_stand p t (held p m sh x))
+
+abbrev pub object_need : Image → ℕ → AbstractState → (register : ℕ) → List ℕ
+object_need p m sh r = codes "an object" ++ owner_place p m sh (operands.Register r) (may_be_object (register sh r))
 
 abbrev pub owner_or_null : Thing → (number : ℕ) → Kind → List ℕ
 owner_or_null t r k = thing_words t ++ register_need (codes " or null in r") r k
@@ -167,14 +177,20 @@ called_in p m' (Register r) states = resting p (method_class p m')
 called_in p m' (Field f) states = resting p (method_class p m')
 called_in p m' (On_entry k) states = resting p (method_class p m')
 
+abbrev pub may_be_words : (states : ℕ) → List ℕ
+may_be_words states = codes "; it may be in " ++ set_words states
+
 abbrev pub states_clause : (rest : List ℕ) → (states : ℕ) → List ℕ
-states_clause rest states = rest ++ (codes "; it may be in " ++ set_words states)
+states_clause rest states = rest ++ may_be_words states
+
+abbrev pub allowed_words : ℕ → List ℕ
+allowed_words allowed = codes "the request in " ++ set_words allowed
 
 abbrev pub states_need : (allowed : ℕ) → (rest : List ℕ) → (states : ℕ) → List ℕ
-states_need allowed rest states = codes "the request in " ++ (set_words allowed ++ states_clause rest states)
+states_need allowed rest states = allowed_words allowed ++ states_clause rest states
 
 abbrev pub begin_words : ℕ → List ℕ
-begin_words m' = codes " alone, where m" ++ (decimal m' ++ codes " begins")
+begin_words m' = numbered (codes " alone, where m") m' (codes " begins")
 
 -- ---- all
 
@@ -184,10 +200,10 @@ module _ (p : Image) (m : ℕ) (sh : AbstractState) where
   need_words (want.Unowning r) = unowning_need r (register sh r)
   need_words (want.ObjectOrNull r) = register_need (codes "an object, a message or null in r") r (register sh r)
   need_words (want.Deletable r) = register_need (codes "an object or null in r") r (register sh r)
-  need_words (want.Pushable r) = owner_need p m sh (codes "an object") (operands.Register r) (may_be_object (register sh r))
-  need_words (want.Owner x t) = owner_need p m sh (thing_words t) x (may_stand p t (held p m sh x))
+  need_words (want.Pushable r) = object_need p m sh r
+  need_words (want.Owner x t) = owner_need p m sh x t
   need_words (want.OwnerOrNull r t) = owner_or_null t r (register sh r)
-  need_words (want.ObjectWord w) = two_numbers (codes "a word w") w (codes " of the method's object; it has ") (word_count p (holder_of p m)) []
+  need_words (want.ObjectWord w) = two_numbers (codes "a word w") w (codes " of the method's object; it has ") (word_count p (holder_of p m)) (codes " words")
   need_words (want.Field f) = numbered (codes "a field f") f (codes " of the method's object; none of that number is declared")
   need_words (want.MethodOfObjects m') = numbered (codes "a method that works on an object; m") m' (codes " works on none: call it on self")
   need_words (want.OwnObject m') = numbered (codes "a method that works on the method's own object; m") m' (codes " works on another")
@@ -226,5 +242,10 @@ abbrev pub needed_where : Bool → Image → ℕ → AbstractState → Instr →
 needed_where true p m sh i = needed_text p m sh i
 needed_where false p m sh i = []
 
-abbrev pub needed_line : Image → ℕ → AbstractState → Reason → Instr → List ℕ
-needed_line p m sh why i = needed_where (is_told why) p m sh i
+abbrev pub needed_in : Image → ℕ → AbstractState → Reason → Option Instr → List ℕ
+needed_in p m sh why None = []
+needed_in p m sh why (Some i) = needed_where (is_told why) p m sh i
+
+-- what is said of a place that is refused for that reason
+abbrev pub needed_line : Image → (method place : ℕ) → AbstractState → Reason → List ℕ
+needed_line p m place sh why = needed_in p m sh why (instr_at p m place)

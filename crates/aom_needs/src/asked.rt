@@ -68,10 +68,16 @@ fn unmet_target(site: &RuleContext<'_>, call: &Call) -> Option<Wanted>
             first_unmet(site, &[owner, apart])
         }
         Target::Field(field) => {
-            first_unmet(site, &[owner_wanted(class, Operand::Field(field), call.method)])
+            first_unmet(
+                site,
+                &[owner_wanted(class, Operand::Field(field), call.method)],
+            )
         }
         Target::Entry(number) => {
-            first_unmet(site, &[owner_wanted(class, Operand::Entry(number), call.method)])
+            first_unmet(
+                site,
+                &[owner_wanted(class, Operand::Entry(number), call.method)],
+            )
         }
     }
 }
@@ -146,7 +152,10 @@ pub(crate) fn unmet(site: &RuleContext<'_>, instr: Instr) -> Option<Wanted>
         | Instr::And(a, b, c)
         | Instr::Or(a, b, c)
         | Instr::Xor(a, b, c) => {
-            first_unmet(site, &[Wanted::Word(b), Wanted::Word(c), Wanted::Unowning(a)])
+            first_unmet(
+                site,
+                &[Wanted::Word(b), Wanted::Word(c), Wanted::Unowning(a)],
+            )
         }
         Instr::JumpEqual(a, b, _) | Instr::JumpLess(a, b, _) => {
             first_unmet(site, &[Wanted::Word(a), Wanted::Word(b)])
@@ -198,11 +207,22 @@ pub(crate) fn unmet(site: &RuleContext<'_>, instr: Instr) -> Option<Wanted>
         }
         Instr::Ask(a, b, c) => {
             let native = Wanted::OfClass(ClassNeed::Native);
-            first_unmet(site, &[Wanted::Word(b), Wanted::Word(c), Wanted::Unowning(a), native])
+            first_unmet(
+                site,
+                &[
+                    Wanted::Word(b),
+                    Wanted::Word(c),
+                    Wanted::Unowning(a),
+                    native,
+                ],
+            )
         }
         Instr::Close => first_unmet(site, &[Wanted::OfClass(ClassNeed::Native)]),
         Instr::TakeMessage(a) => {
-            first_unmet(site, &[Wanted::Unowning(a), Wanted::Service, Wanted::Message])
+            first_unmet(
+                site,
+                &[Wanted::Unowning(a), Wanted::Service, Wanted::Message],
+            )
         }
         Instr::Reply(a, b) => {
             let message = Wanted::Owner(Operand::Register(a), Thing::Message);

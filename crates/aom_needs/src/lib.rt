@@ -6,13 +6,17 @@
 //! as `specs/Sentences.antt` says. Nothing here decides whether an instruction is refused, nor for what reason.
 #![tactic(auto)]
 
-pub mod asked;
+mod asked;
 mod classes;
 mod laws;
 mod methods;
+mod needed;
 mod owners;
-pub mod unmet;
+mod sentences;
+mod states;
+mod unmet;
 mod wanted;
 
 pub use laws::needs_are_told;
+pub use needed::write_needed;
 pub use wanted::{ClassNeed, Operand, Wanted};

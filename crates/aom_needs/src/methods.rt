@@ -12,7 +12,9 @@ ghost use Rattle.aom_typing_rules.specs.Calls.{awaits, is_destructor, stands_her
 
 use crate::owners::is_own_for;
 use aom_abstract_state::{InitState, Kind, only_if};
-use aom_image::{Argument, ClassNumber, Gives, MethodNumber, Register, Role, States, Target, Thing};
+use aom_image::{
+    Argument, ClassNumber, Gives, MethodNumber, Register, Role, States, Target, Thing,
+};
 use aom_linker::Linked;
 use aom_roles::{gives_of, resting_states};
 use bitflags::Flags;

@@ -11,9 +11,7 @@ use crate::classes::{is_class, own_kind};
 use crate::methods::{
     after_of, are_within, awaits, is_argument, is_destructor, may_begin, stands_here,
 };
-use crate::owners::{
-    held, is_object_last, is_operation_last, is_own_for, may_be, owns_object,
-};
+use crate::owners::{held, is_object_last, is_operation_last, is_own_for, may_be, owns_object};
 use aom_abstract_state::{Reason, only_if};
 use aom_image::States;
 use aom_rule_context::RuleContext;
