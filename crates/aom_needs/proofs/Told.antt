@@ -1,5 +1,5 @@
 -- The needs that are told are those of the rule, instruction by instruction.
-use Rattle.std.proofs.Common.{◌≡◌, ◌∙◌, ℕ, suc, Bool, true, false, cond, List, [], ◌∷◌, ◌++◌, Option, Some, None, Ok, Err, append_assoc, ap, length, refl, sym}
+use Rattle.std.proofs.Common.{◌≡◌, ◌∙◌, ℕ, suc, Bool, true, false, cond, List, [], ◌∷◌, ◌++◌, Option, Some, None, Err, append_assoc, ap, length, refl, sym}
 use Rattle.std.specs.Prelude.{is_some, map}
 use Rattle.aom_image.specs.Image.{Image}
 use Rattle.aom_image.specs.Views.{arguments_of, gives_of, method_class, method_role}
@@ -23,7 +23,7 @@ use Rattle.aom_abstract_state.specs.declared.why.Reason.{Reason}
 use Rattle.aom_abstract_state.specs.declared.why.Reason.TheVariants.{RegisterKind}
 use Rattle.aom_typing_rules.specs.Calls.{age_need, each_argument, is_target, rule_arguments, rule_ended, rule_left, rule_moved, rule_result, rule_target, rule_trapped}
 use Rattle.aom_typing_rules.specs.Rules.{flows, rule, rule_needs}
-use Rattle.aom_needs.specs.Asked.{each_wanted, given_wanted, moved, moved_wanted, owner_wanted, put_wanted, result_wanted, target_wanted, wanted}
+use Rattle.aom_needs.specs.Asked.{each_wanted, given_wanted, owner_wanted, put_wanted, result_wanted, target_wanted}
 use Rattle.aom_needs.specs.Laws.{first_failing, needs_told, told_needs}
 use Rattle.aom_needs.specs.Wanted.{held, is_told, need_of}
 use Rattle.aom_needs.specs.declared.wanted.Operand.{Operand}

@@ -1,5 +1,5 @@
 -- The law: what is told of an instruction are just its rule's needs of the reasons that are told, in the rule's order.
-use Rattle.std.specs.Prelude.{ℕ, ◌≡◌, Bool, true, cond, List, [], ◌∷◌, ◌++◌, Option, Some, None, Err, map, option_map}
+use Rattle.std.specs.Prelude.{ℕ, ◌≡◌, true, cond, List, [], ◌∷◌, ◌++◌, Option, Some, None, Err, map}
 use Rattle.aom_image.specs.Image.{Image}
 use Rattle.aom_instructions.specs.declared.instr.Instr.{Instr}
 use Rattle.aom_abstract_state.specs.AbstractState.{AbstractState}
@@ -7,7 +7,7 @@ use Rattle.aom_abstract_state.specs.Needs.{Need}
 use Rattle.aom_abstract_state.specs.declared.why.Reason.{Reason}
 use Rattle.aom_typing_rules.specs.Rules.{rule, rule_needs}
 use Rattle.aom_needs.specs.Asked.{moved, moved_wanted, wanted}
-use Rattle.aom_needs.specs.Wanted.{first_unmet, is_told, need_of}
+use Rattle.aom_needs.specs.Wanted.{is_told, need_of}
 
 -- the needs whose failure is told
 abbrev pub told_needs : List Need → List Need

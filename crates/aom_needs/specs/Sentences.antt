@@ -139,17 +139,17 @@ class_words classes.Native = codes "a method of an active class that a native se
 class_words classes.Token = codes "a method of an active token class"
 
 abbrev pub provider_clause : Provider → List ℕ
-provider_clause providers.Own = codes "; its class is active self"
-provider_clause providers.Timer = codes "; its class is active timer"
-provider_clause (providers.Native n) = codes "; its class is active native " ++ decimal n
-provider_clause providers.Token = codes "; its class is active token"
+provider_clause providers.Own = codes "; it is of active self"
+provider_clause providers.Timer = codes "; it is of active timer"
+provider_clause (providers.Native n) = codes "; it is of active native " ++ decimal n
+provider_clause providers.Token = codes "; it is of active token"
 
 abbrev pub class_clause : Option ClassKind → List ℕ
-class_clause None = codes "; it has no class"
-class_clause (Some Plain) = codes "; its class is plain"
+class_clause None = codes "; it is of no class"
+class_clause (Some Plain) = codes "; it is of a plain class"
 class_clause (Some (Active provider)) = provider_clause provider
-class_clause (Some (Server most session)) = codes "; its class is a server"
-class_clause (Some Session) = codes "; its class is a session"
+class_clause (Some (Server most session)) = codes "; it is of a server"
+class_clause (Some Session) = codes "; it is of a session"
 
 -- ---- request states
 
@@ -203,7 +203,7 @@ module _ (p : Image) (m : ℕ) (sh : AbstractState) where
   need_words (want.Pushable r) = object_need p m sh r
   need_words (want.Owner x t) = owner_need p m sh x t
   need_words (want.OwnerOrNull r t) = owner_or_null t r (register sh r)
-  need_words (want.ObjectWord w) = two_numbers (codes "a word w") w (codes " of the method's object; it has ") (word_count p (holder_of p m)) (codes " words")
+  need_words (want.ObjectWord w) = two_numbers (codes "a word w") w (codes " of the method's object; it has ") (word_count p (holder_of p m)) (codes " of them")
   need_words (want.Field f) = numbered (codes "a field f") f (codes " of the method's object; none of that number is declared")
   need_words (want.MethodOfObjects m') = numbered (codes "a method that works on an object; m") m' (codes " works on none: call it on self")
   need_words (want.OwnObject m') = numbered (codes "a method that works on the method's own object; m") m' (codes " works on another")
@@ -213,7 +213,7 @@ module _ (p : Image) (m : ℕ) (sh : AbstractState) where
   need_words (want.NoResult a) = numbered (codes "ret alone, as the method gives nothing back in a register; r") a (codes " is named")
   need_words want.LastObject = codes "an object as the last cleanup entry, c0; it is an operation: popop takes that down"
   need_words want.LastOperation = codes "an operation as the last cleanup entry, c0; it is an object: pop or popdel takes that down"
-  need_words want.Service = codes "a service method; this one is of another role"
+  need_words want.Service = codes "a service method; it is of another role"
   need_words want.Message = codes "the message of the service; it has been taken"
   need_words (want.OfClass need) = class_words need ++ class_clause (own_kind p m)
   need_words (want.Begin m' target) = states_need (before_of p m') (begin_words m') (called_in p m' target sh.states)

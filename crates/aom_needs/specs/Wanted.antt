@@ -3,7 +3,6 @@ use Rattle.std.specs.Prelude.{ℕ, Bool, true, false, not, ◌+◌, ◌==◌, Li
 use Rattle.aom_image.specs.Image.{Image}
 use Rattle.aom_image.specs.Views.{arguments_of, gives_of, has, method_class, method_role}
 use Rattle.aom_image.specs.declared.class.ClassKind.{ClassKind}
-use Rattle.aom_image.specs.declared.method.Thing.TheVariants.{Object, Message}
 use Rattle.aom_roles.specs.Kinds.{is_active_kind, is_issuing_kind, is_listed_kind, is_native_kind, is_token_kind}
 use Rattle.aom_roles.specs.Roles.{is_service}
 use Rattle.aom_roles.specs.States.{active, cancel_done, cancel_open}

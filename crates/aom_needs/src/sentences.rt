@@ -270,12 +270,12 @@ fn write_provider(out: &mut FigureWriter, provider: Provider) -> Result<(), Allo
     ensures { OnOk result (out.new ≡ out.old ++ provider_clause provider) }
 {
     match provider {
-        Provider::Own => out.words(b"; its class is active self"),
-        Provider::Timer => out.words(b"; its class is active timer"),
+        Provider::Own => out.words(b"; it is of active self"),
+        Provider::Timer => out.words(b"; it is of active timer"),
         Provider::Native(native) => {
-            out.count(b"; its class is active native ", u64::from(native.number()))
+            out.count(b"; it is of active native ", u64::from(native.number()))
         }
-        Provider::Token => out.words(b"; its class is active token"),
+        Provider::Token => out.words(b"; it is of active token"),
     }
 }
 
@@ -283,11 +283,11 @@ fn write_class_clause(out: &mut FigureWriter, kind: Option<ClassKind>) -> Result
     ensures { OnOk result (out.new ≡ out.old ++ class_clause kind) }
 {
     match kind {
-        None => out.words(b"; it has no class"),
-        Some(ClassKind::Plain) => out.words(b"; its class is plain"),
+        None => out.words(b"; it is of no class"),
+        Some(ClassKind::Plain) => out.words(b"; it is of a plain class"),
         Some(ClassKind::Active { provider }) => write_provider(out, provider),
-        Some(ClassKind::Server { .. }) => out.words(b"; its class is a server"),
-        Some(ClassKind::Session) => out.words(b"; its class is a session"),
+        Some(ClassKind::Server { .. }) => out.words(b"; it is of a server"),
+        Some(ClassKind::Session) => out.words(b"; it is of a session"),
     }
 }
 
@@ -362,7 +362,7 @@ fn write_object_word(
     site: &RuleContext<'_>,
     word: WordIndex,
 ) -> Result<(), AllocError>
-    ensures { OnOk result (out.new ≡ out.old ++ two_numbers (codes "a word w") word (codes " of the method's object; it has ") (word_count site.now.image (holder_of site.now.image site.now.method)) (codes " words")) }
+    ensures { OnOk result (out.new ≡ out.old ++ two_numbers (codes "a word w") word (codes " of the method's object; it has ") (word_count site.now.image (holder_of site.now.image site.now.method)) (codes " of them")) }
 {
     let word = u64::from(word.number());
     let count = u64::from(word_count(site.linked, site.method));
@@ -372,7 +372,7 @@ fn write_object_word(
         word,
         b" of the method's object; it has ",
         count,
-        b" words",
+        b" of them",
     )
 }
 
@@ -450,7 +450,7 @@ fn write_need(
         Wanted::LastOperation => out.words(
             b"an operation as the last cleanup entry, c0; it is an object: pop or popdel takes that down",
         ),
-        Wanted::Service => out.words(b"a service method; this one is of another role"),
+        Wanted::Service => out.words(b"a service method; it is of another role"),
         Wanted::Message => out.words(b"the message of the service; it has been taken"),
         Wanted::OfClass(need) => write_class_need(out, need, own_kind(site)),
         Wanted::Begin(callee, target) => write_begin(

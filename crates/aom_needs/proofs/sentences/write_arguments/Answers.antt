@@ -1,6 +1,5 @@
-use Rattle.std.proofs.Common.{◌∙◌, ◌≡◌, List, ap, length}
+use Rattle.std.proofs.Common.{◌∙◌, ◌≡◌}
 use Rattle.aom_image.specs.Views.{arguments_of}
-use Rattle.aom_image.specs.declared.method.Argument.{Argument}
 use Rattle.aom_needs.proofs.sentences.write_arguments.Goals as goal
 
 pub returns : goal.returns
