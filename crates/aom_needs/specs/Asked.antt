@@ -111,10 +111,14 @@ module _ (p : Image) (m : ℕ) where
   wanted Stop = []
   wanted (Hand a) = want.Unowning a ∷ want.OfClass classes.Token ∷ []
 
--- once the arguments of a call have moved
+-- the state once the arguments of a method have moved
+abbrev pub moved_by : Image → (method first : ℕ) → AbstractState → AbstractState
+moved_by p m' first sh = arguments_moved (arguments_of p m') first sh
+
+-- and of a call
 abbrev pub moved : Image → Instr → AbstractState → AbstractState
-moved p (Call target m' first c) sh = arguments_moved (arguments_of p m') first sh
-moved p (Trap target m' first c) sh = arguments_moved (arguments_of p m') first sh
+moved p (Call target m' first c) sh = moved_by p m' first sh
+moved p (Trap target m' first c) sh = moved_by p m' first sh
 moved p _ sh = sh
 
 abbrev pub moved_wanted : Instr → List Wanted

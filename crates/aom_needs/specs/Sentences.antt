@@ -131,6 +131,12 @@ numbered lead n rest = lead ++ (decimal n ++ rest)
 abbrev pub two_numbers : (lead : List ℕ) → ℕ → (between : List ℕ) → ℕ → (rest : List ℕ) → List ℕ
 two_numbers lead n between k rest = lead ++ (decimal n ++ (between ++ (decimal k ++ rest)))
 
+abbrev pub word_need : Image → (method word : ℕ) → List ℕ
+word_need p m w = two_numbers (codes "a word w") w (codes " of the method's object; it has ") (word_count p (holder_of p m)) (codes " of them")
+
+abbrev pub arguments_need : Image → (method first : ℕ) → List ℕ
+arguments_need p m first = two_numbers (codes "all arguments up to r15; there are ") (length (arguments_of p m)) (codes " from r") first (codes " on")
+
 abbrev pub class_words : ClassNeed → List ℕ
 class_words classes.Active = codes "a method of an active class"
 class_words classes.Issuing = codes "a method of an active class that issues its requests"
@@ -203,12 +209,12 @@ module _ (p : Image) (m : ℕ) (sh : AbstractState) where
   need_words (want.Pushable r) = object_need p m sh r
   need_words (want.Owner x t) = owner_need p m sh x t
   need_words (want.OwnerOrNull r t) = owner_or_null t r (register sh r)
-  need_words (want.ObjectWord w) = two_numbers (codes "a word w") w (codes " of the method's object; it has ") (word_count p (holder_of p m)) (codes " of them")
+  need_words (want.ObjectWord w) = word_need p m w
   need_words (want.Field f) = numbered (codes "a field f") f (codes " of the method's object; none of that number is declared")
   need_words (want.MethodOfObjects m') = numbered (codes "a method that works on an object; m") m' (codes " works on none: call it on self")
   need_words (want.OwnObject m') = numbered (codes "a method that works on the method's own object; m") m' (codes " works on another")
   need_words (want.NoArgument r first m') = numbered (codes "an object that is no argument; r") r (codes " is one too")
-  need_words (want.Arguments m' first) = two_numbers (codes "all arguments up to r15; there are ") (length (arguments_of p m')) (codes " from r") first (codes " on")
+  need_words (want.Arguments m' first) = arguments_need p m' first
   need_words (want.ResultRegister m' c) = unowning_need c (register sh c)
   need_words (want.NoResult a) = numbered (codes "ret alone, as the method gives nothing back in a register; r") a (codes " is named")
   need_words want.LastObject = codes "an object as the last cleanup entry, c0; it is an operation: popop takes that down"
@@ -228,9 +234,13 @@ module _ (p : Image) (m : ℕ) (sh : AbstractState) where
   sentence_of None = []
   sentence_of (Some w) = sentence w
 
+-- in the state once the arguments have moved
+abbrev pub moved_sentence : Image → ℕ → AbstractState → Instr → List ℕ
+moved_sentence p m sh i = sentence_of p m sh (first_unmet p m sh (moved_wanted i))
+
 -- the sentence of what is not met there, or else once the arguments have moved
 abbrev pub sentence_from : Image → ℕ → AbstractState → Instr → Option Wanted → List ℕ
-sentence_from p m sh i None = sentence_of p m (moved p i sh) (first_unmet p m (moved p i sh) (moved_wanted i))
+sentence_from p m sh i None = moved_sentence p m (moved p i sh) i
 sentence_from p m sh i (Some w) = sentence p m sh w
 
 -- the sentence of the first that is not met

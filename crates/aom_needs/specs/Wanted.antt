@@ -21,6 +21,7 @@ use Rattle.aom_typing_rules.specs.Beginning.{may_begin}
 use Rattle.aom_typing_rules.specs.Calls.{awaits, is_destructor, stands_here}
 use Rattle.aom_typing_rules.specs.Cleanup.{owns_object, top_matches_object, top_matches_operation}
 use Rattle.aom_typing_rules.specs.Requests.{own_kind}
+use Rattle.aom_typing_rules.specs.RuleContext.{RuleContext}
 use Rattle.aom_needs.specs.declared.wanted.ClassNeed.{ClassNeed}
 use Rattle.aom_needs.specs.declared.wanted.ClassNeed.TheVariants as classes
 use Rattle.aom_needs.specs.declared.wanted.Operand.{Operand}
@@ -100,3 +101,7 @@ unmet_or false w next = Some w
 abbrev pub first_unmet : Image → ℕ → AbstractState → List Wanted → Option Wanted
 first_unmet p m sh [] = None
 first_unmet p m sh (w ∷ ws) = unmet_or (is_met p m sh w) w (first_unmet p m sh ws)
+
+-- at a place
+abbrev pub first_at : RuleContext → List Wanted → Option Wanted
+first_at s ws = first_unmet s.image s.method s.shape ws

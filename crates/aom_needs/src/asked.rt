@@ -2,7 +2,7 @@
 ghost use Rattle.std.specs.Prelude.{◌≡◌, ◌+◌, ◌≤◌, ◌<◌, length};
 ghost use Rattle.aom_image.specs.Views.{arguments_of, method_class};
 ghost use Rattle.aom_needs.specs.Asked.{argument_wanted, each_wanted, given_wanted, moved_wanted, owner_wanted, put_wanted, result_wanted, target_wanted, wanted};
-ghost use Rattle.aom_needs.specs.Wanted.{first_unmet};
+ghost use Rattle.aom_needs.specs.Wanted.{first_at};
 ghost use Rattle.aom_instructions.specs.Table.{action_of};
 ghost use Rattle.aom_typing_rules.specs.Calls.{HasCodeRegister};
 
@@ -57,7 +57,7 @@ fn result_wanted(gives: Gives, register: Register) -> Wanted
 }
 
 fn unmet_target(site: &RuleContext<'_>, call: &Call) -> Option<Wanted>
-    ensures { result ≡ first_unmet site.now.image site.now.method site.now.shape (target_wanted call.now.target (method_class site.now.image call.now.method) call.now.method call.now.first) }
+    ensures { result ≡ first_at site.now (target_wanted call.now.target (method_class site.now.image call.now.method) call.now.method call.now.first) }
 {
     let class = class_of(site.linked, call.method);
     match call.target {
@@ -91,7 +91,7 @@ fn register_at(number: usize) -> Register
 
 fn unmet_argument(site: &RuleContext<'_>, arguments: &[Argument], first: Register) -> Option<Wanted>
     requires { first + length arguments.now ≤ 16 }
-    ensures { result ≡ first_unmet site.now.image site.now.method site.now.shape (each_wanted arguments.now first) }
+    ensures { result ≡ first_at site.now (each_wanted arguments.now first) }
 {
     let first = first.number() as usize;
     for index in 0..arguments.len() {
@@ -106,7 +106,7 @@ fn unmet_argument(site: &RuleContext<'_>, arguments: &[Argument], first: Registe
 
 /// The first of a call that is not met before its arguments move.
 fn unmet_given(site: &RuleContext<'_>, call: &Call) -> Option<Wanted>
-    ensures { result ≡ first_unmet site.now.image site.now.method site.now.shape (given_wanted site.now.image site.now.method call.now.target call.now.method call.now.first) }
+    ensures { result ≡ first_at site.now (given_wanted site.now.image site.now.method call.now.target call.now.method call.now.first) }
 {
     let target = unmet_target(site, call);
     if target.is_some() {
@@ -122,7 +122,7 @@ fn unmet_given(site: &RuleContext<'_>, call: &Call) -> Option<Wanted>
 /// The first that is not met once the arguments of a call have moved.
 pub(crate) fn unmet_moved(site: &RuleContext<'_>, instr: Instr) -> Option<Wanted>
     requires { HasCodeRegister (action_of instr) }
-    ensures { result ≡ first_unmet site.now.image site.now.method site.now.shape (moved_wanted instr) }
+    ensures { result ≡ first_at site.now (moved_wanted instr) }
 {
     match instr {
         Instr::Call(target, callee, _, c) => {
@@ -141,7 +141,7 @@ pub(crate) fn unmet_moved(site: &RuleContext<'_>, instr: Instr) -> Option<Wanted
 
 /// The first that is not met where the instruction is.
 pub(crate) fn unmet(site: &RuleContext<'_>, instr: Instr) -> Option<Wanted>
-    ensures { result ≡ first_unmet site.now.image site.now.method site.now.shape (wanted site.now.image site.now.method instr) }
+    ensures { result ≡ first_at site.now (wanted site.now.image site.now.method instr) }
 {
     match instr {
         Instr::Const(a, _) => first_unmet(site, &[Wanted::Unowning(a)]),

@@ -2,10 +2,9 @@
 ghost use Rattle.std.specs.Prelude.{◌≡◌, ◌++◌, ◌+◌, ◌≤◌, Some, None, IsSome, OnOk, length};
 ghost use Rattle.aom_image.specs.Views.{arguments_of, instr_at, method_at};
 ghost use Rattle.aom_instructions.specs.Table.{action_of};
-ghost use Rattle.aom_abstract_state.specs.Arguments.{arguments_moved};
-ghost use Rattle.aom_needs.specs.Asked.{moved, moved_wanted, wanted};
-ghost use Rattle.aom_needs.specs.Sentences.{needed_line, needed_text, sentence_of};
-ghost use Rattle.aom_needs.specs.Wanted.{first_unmet};
+ghost use Rattle.aom_needs.specs.Asked.{moved, moved_by, wanted};
+ghost use Rattle.aom_needs.specs.Sentences.{moved_sentence, needed_line, needed_text, sentence_of};
+ghost use Rattle.aom_needs.specs.Wanted.{first_at};
 ghost use Rattle.aom_typing_rules.specs.Calls.{HasCodeRegister};
 
 use crate::Wanted;
@@ -44,7 +43,7 @@ fn write_called(
 ) -> Result<(), AllocError>
     requires within { first + length (arguments_of site.now.image callee) ≤ 16 }
     requires code { HasCodeRegister (action_of instr) }
-    ensures { OnOk result (out.new ≡ out.old ++ sentence_of site.now.image site.now.method (arguments_moved (arguments_of site.now.image callee) first site.now.shape) (first_unmet site.now.image site.now.method (arguments_moved (arguments_of site.now.image callee) first site.now.shape) (moved_wanted instr))) }
+    ensures { OnOk result (out.new ≡ out.old ++ moved_sentence site.now.image site.now.method (moved_by site.now.image callee first site.now.shape) instr) }
 {
     let arguments = arguments_of(site.linked, callee);
     let shape = site.shape.without_arguments(arguments, first);
@@ -57,9 +56,9 @@ fn write_moved(
     site: &RuleContext<'_>,
     instr: Instr,
 ) -> Result<(), AllocError>
-    requires met { first_unmet site.now.image site.now.method site.now.shape (wanted site.now.image site.now.method instr) ≡ None }
+    requires met { first_at site.now (wanted site.now.image site.now.method instr) ≡ None }
     requires code { HasCodeRegister (action_of instr) }
-    ensures { OnOk result (out.new ≡ out.old ++ sentence_of site.now.image site.now.method (moved site.now.image instr site.now.shape) (first_unmet site.now.image site.now.method (moved site.now.image instr site.now.shape) (moved_wanted instr))) }
+    ensures { OnOk result (out.new ≡ out.old ++ moved_sentence site.now.image site.now.method (moved site.now.image instr site.now.shape) instr) }
 {
     match instr {
         Instr::Call(_, callee, first, _) => write_called(out, site, instr, callee, first),

@@ -2,7 +2,7 @@
 ghost use Rattle.std.specs.Prelude.{◌≡◌, ◌++◌, OnOk, codes, length};
 ghost use Rattle.aom_image.specs.Views.{arguments_of};
 ghost use Rattle.aom_abstract_state.specs.Kinds.{register};
-ghost use Rattle.aom_needs.specs.Sentences.{ask_of, ask_words, class_clause, class_words, entry_clause, kind_clause, need_words, numbered, object_need, operand_clause, operand_words, owner_need, owner_place, owner_or_null, provider_clause, pushed_clause, register_need, rid_of, rid_words, sentence, states_clause, sure_words, thing_words, two_numbers, unowning_need};
+ghost use Rattle.aom_needs.specs.Sentences.{arguments_need, ask_of, ask_words, class_clause, class_words, entry_clause, kind_clause, need_words, numbered, object_need, operand_clause, operand_words, owner_need, owner_place, owner_or_null, provider_clause, pushed_clause, register_need, rid_of, rid_words, sentence, states_clause, sure_words, thing_words, two_numbers, unowning_need, word_need};
 ghost use Rattle.aom_roles.specs.Things.{holder_of, word_count};
 ghost use Rattle.aom_typing_rules.specs.Requests.{own_kind};
 
@@ -308,7 +308,7 @@ fn write_arguments(
     method: MethodNumber,
     first: Register,
 ) -> Result<(), AllocError>
-    ensures { OnOk result (out.new ≡ out.old ++ two_numbers (codes "all arguments up to r15; there are ") (length (arguments_of site.now.image method)) (codes " from r") first (codes " on")) }
+    ensures { OnOk result (out.new ≡ out.old ++ arguments_need site.now.image method first) }
 {
     let count = arguments_of(site.linked, method).len() as u64;
     let first = u64::from(first.number());
@@ -362,7 +362,7 @@ fn write_object_word(
     site: &RuleContext<'_>,
     word: WordIndex,
 ) -> Result<(), AllocError>
-    ensures { OnOk result (out.new ≡ out.old ++ two_numbers (codes "a word w") word (codes " of the method's object; it has ") (word_count site.now.image (holder_of site.now.image site.now.method)) (codes " of them")) }
+    ensures { OnOk result (out.new ≡ out.old ++ word_need site.now.image site.now.method word) }
 {
     let word = u64::from(word.number());
     let count = u64::from(word_count(site.linked, site.method));

@@ -1,7 +1,7 @@
 //! The first need that is not met.
 ghost use Rattle.std.specs.Prelude.{◌≡◌, not};
 ghost use Rattle.aom_image.specs.Views.{has};
-ghost use Rattle.aom_needs.specs.Wanted.{cancelling, first_unmet, is_met, is_told};
+ghost use Rattle.aom_needs.specs.Wanted.{cancelling, first_at, is_met, is_told};
 ghost use Rattle.aom_roles.specs.States.{active};
 ghost use Rattle.aom_roles.specs.Tests.{only_if};
 ghost use Rattle.aom_typing_rules.specs.Calls.{is_destructor};
@@ -77,7 +77,7 @@ fn is_inactive(site: &RuleContext<'_>) -> bool
 
 /// The first that is not met.
 pub(crate) fn first_unmet(site: &RuleContext<'_>, wants: &[Wanted]) -> Option<Wanted>
-    ensures { result ≡ first_unmet site.now.image site.now.method site.now.shape wants.now }
+    ensures { result ≡ first_at site.now wants.now }
 {
     for wanted in wants {
         if !is_met(site, *wanted) {

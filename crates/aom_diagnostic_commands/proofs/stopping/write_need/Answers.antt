@@ -1,5 +1,5 @@
 -- The place has an instruction, or nothing is said.
-use Rattle.std.proofs.Common.{◌≡◌, ◌∙◌, ◌++◌, [], List, ap, append-nil, arith, sym}
+use Rattle.std.proofs.Common.{◌∙◌, ◌++◌, ap, append-nil, arith, sym}
 use Rattle.aom_needs.specs.Sentences.{needed_in}
 use Rattle.aom_diagnostic_commands.proofs.Knowing.{has_instr, has_no_instr}
 use Rattle.aom_diagnostic_commands.proofs.stopping.write_need.Goals as goal
