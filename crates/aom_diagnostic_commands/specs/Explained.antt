@@ -20,6 +20,7 @@ use Rattle.aom_diagnostics.specs.Places.{line_text, method_text}
 use Rattle.aom_diagnostics.specs.Sources.{declared_text, source_text}
 use Rattle.aom_diagnostics.specs.Table.{asm_texts, boot_texts, budget_texts, link_texts, load_texts, memory_texts, script_texts, verify_texts, word_texts}
 use Rattle.aom_diagnostics.specs.declared.word.Unnumbered.TheVariants as words
+use Rattle.aom_needs.specs.Sentences.{needed_line}
 use Rattle.aom_commands.specs.Acceptable.{IsSerialized}
 use Rattle.aom_commands.specs.declared.faults.Fault.{Fault}
 use Rattle.aom_commands.specs.declared.faults.Fault.TheVariants.{Load, Asm, Link, Verify, Budget, Script, Boot, Native, File, Write, Memory}
@@ -70,13 +71,17 @@ is_need p m place sh why (Some i) = reports_why (rule p m place sh i) why
 unfoldable pub ways_differ : Image → ℕ → ℕ → AbstractState → Reason → Bool
 ways_differ p m place sh why = nat_lt (length sh.entries) 1024 && not (is_need p m place sh why (instr_at p m place))
 
-abbrev pub ways_line : Bool → List ℕ
-ways_line true = codes "Another way comes here, and does not agree with this" ++ 10 ∷ []
-ways_line false = []
+-- ways differ, or the instruction needs what is not there
+abbrev pub cause_of : Bool → Image → ℕ → ℕ → AbstractState → Reason → List ℕ
+cause_of true p m place sh why = codes "Another way comes here, and does not agree with this" ++ 10 ∷ []
+cause_of false p m place sh why = needed_line p m place sh why
+
+abbrev pub cause_text : Image → ℕ → ℕ → AbstractState → Reason → List ℕ
+cause_text p m place sh why = cause_of (ways_differ p m place sh why) p m place sh why
 
 -- what a state says that is refused at a place for that reason
 abbrev pub state_text : Image → ℕ → ℕ → AbstractState → Reason → List ℕ
-state_text p m place sh why = known_text p m sh ++ ways_line (ways_differ p m place sh why)
+state_text p m place sh why = known_text p m sh ++ cause_text p m place sh why
 
 -- what is known at the place of a refusal, behind a text
 pub data KnownThere (p : Image) (m place : ℕ) (why : Reason) (before after : List ℕ) : Type 0 where

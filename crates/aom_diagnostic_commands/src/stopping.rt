@@ -4,7 +4,8 @@ ghost use Rattle.aom_link_conditions.specs.declared.fault.LinkFault.TheVariants.
 ghost use Rattle.aom_image.specs.Views.{method_at};
 ghost use Rattle.aom_abstract_state.specs.Whys.{why_number};
 ghost use Rattle.aom_verify.specs.Arrivals.{StopsAt};
-ghost use Rattle.aom_diagnostic_commands.specs.Explained.{KnownThere, state_text, ways_differ, ways_line};
+ghost use Rattle.aom_diagnostic_commands.specs.Explained.{KnownThere, cause_text, state_text, ways_differ};
+ghost use Rattle.aom_needs.specs.Sentences.{needed_line};
 
 use aom_abstract_state::{AbstractState, Reason};
 use aom_cost_report::FigureWriter;
@@ -12,6 +13,7 @@ use aom_diagnostics::write_known;
 use aom_image::{Image, MethodNumber};
 use aom_link_conditions::LinkFault;
 use aom_linker::{Linked, link};
+use aom_needs::write_needed;
 use aom_rule_functions::rule;
 use aom_verify::{Stop, stop_of};
 use std::alloc::{AllocError, Global};
@@ -48,14 +50,40 @@ fn ways_differ(
     }
 }
 
-/// Writes that ways differ, where that is so.
-fn write_ways(out: &mut FigureWriter, differ: bool) -> Result<(), AllocError>
-    ensures { OnOk result (out.new ≡ out.old ++ ways_line differ) }
+/// Writes what the instruction at a place needs and does not have, if there is an instruction.
+fn write_need(
+    out: &mut FigureWriter,
+    linked: &Linked,
+    method: MethodNumber,
+    place: usize,
+    shape: &AbstractState<'_>,
+    why: Reason,
+) -> Result<(), AllocError>
+    requires { IsSome (method_at linked.now method) }
+    ensures { OnOk result (out.new ≡ out.old ++ needed_line linked.now method place shape.now why) }
 {
-    if differ {
+    if linked.method(method).code.len() <= place {
+        return Ok(());
+    }
+    write_needed(out, linked, method, place, shape, why)
+}
+
+/// Writes that ways differ, where that is so, and else what the instruction needs.
+fn write_cause(
+    out: &mut FigureWriter,
+    linked: &Linked,
+    method: MethodNumber,
+    place: usize,
+    shape: &AbstractState<'_>,
+    why: Reason,
+) -> Result<(), AllocError>
+    requires { IsSome (method_at linked.now method) }
+    ensures { OnOk result (out.new ≡ out.old ++ cause_text linked.now method place shape.now why) }
+{
+    if ways_differ(linked, method, place, shape, why) {
         out.words(b"Another way comes here, and does not agree with this\n")
     } else {
-        Ok(())
+        write_need(out, linked, method, place, shape, why)
     }
 }
 
@@ -72,7 +100,7 @@ fn write_state(
     ensures { OnOk result (out.new ≡ out.old ++ state_text linked.now method place shape.now why) }
 {
     write_known(out, linked, method, shape)?;
-    write_ways(out, ways_differ(linked, method, place, shape, why))
+    write_cause(out, linked, method, place, shape, why)
 }
 
 /// Writes what is known where work on a method ends, if it does so at that place and for that reason.

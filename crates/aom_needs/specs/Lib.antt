@@ -1,0 +1,4 @@
+pub mod Wanted
+pub mod Asked
+pub mod Sentences
+pub mod Laws
