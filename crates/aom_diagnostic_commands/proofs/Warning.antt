@@ -1,5 +1,5 @@
 -- Lines of warnings one behind the other, and what the status answers of them.
-use Rattle.std.proofs.Common.{◌≡◌, ◌<◌, ◌+◌, ◌++◌, ◌∙◌, ℕ, suc, List, [], ◌∷◌, Ok, Err, Result, ap, arith, append_assoc, inl, inr, length, refl, slice_index_or, subst, sym, take}
+use Rattle.std.proofs.Common.{◌≡◌, ◌<◌, ◌+◌, ◌++◌, ◌∙◌, ℕ, suc, List, [], ◌∷◌, Ok, Err, OnOk, Result, decimal, ap, arith, append_assoc, inl, inr, length, refl, slice_index_or, subst, sym, take}
 use Rattle.std.proofs.Math.Seq.{take-suc}
 use Rattle.std.proofs.lemmas.List.{append-nil}
 use Rattle.aom_image.specs.Image.{Image}
@@ -17,7 +17,13 @@ use Rattle.aom_diagnostic_commands.specs.Warned.{IsWarned, WarnsBy, warning_line
 
 lines_behind : (line : Warning → List ℕ) (xs : List Warning) (x : Warning) → warning_lines line (xs ++ x ∷ []) ≡ warning_lines line xs ++ line x
 lines_behind line [] x = append-nil (line x)
-lines_behind line (y ∷ ys) x = ap (λ text. line y ++ text) (lines_behind line ys x) ∙ append_assoc (line y) (warning_lines line ys) (line x)
+lines_behind line (y ∷ ys) x = ap (λ text. line y ++ text) (lines_behind line ys x) ∙ sym (append_assoc (line y) (warning_lines line ys) (line x))
+
+-- words and a number behind a text
+pub numbered_behind : {A E : Type 0} (found : Result A E) (out now words : List ℕ) (n k : ℕ) → n ≡ k → OnOk found (now ≡ (out ++ words) ++ decimal n) →
+    OnOk found (now ≡ out ++ (words ++ decimal k))
+numbered_behind (Ok done) out now words n k same h = h ∙ append_assoc out words (decimal n) ∙ ap (λ j. out ++ (words ++ decimal j)) same
+numbered_behind (Err e) out now words n k same h = h
 
 -- one line more
 pub line_more : (line : Warning → List ℕ) (ws : List Warning) (i : ℕ) (w : Warning) (before now text : List ℕ) → i < length ws → w ≡ slice_index_or ws i w →
@@ -27,7 +33,7 @@ line_more line ws i w before now text within is so_far added =
     let grown : take (i + 1) ws ≡ take i ws ++ w ∷ [] = ap (λ n. take n ws) more ∙ take-suc ws i w within ∙ ap (λ x. take i ws ++ x ∷ []) (sym is) in
     let lines : warning_lines line (take (i + 1) ws) ≡ warning_lines line (take i ws) ++ line w =
     ap (warning_lines line) grown ∙ lines_behind line (take i ws) w in
-    added ∙ ap (λ t. t ++ line w) so_far ∙ sym (append_assoc before (warning_lines line (take i ws)) (line w)) ∙ ap (λ t. before ++ t) (sym lines)
+    added ∙ ap (λ t. t ++ line w) so_far ∙ append_assoc before (warning_lines line (take i ws)) (line w) ∙ ap (λ t. before ++ t) (sym lines)
 
 pub warned : (line : Warning → List ℕ) (bytes text : List ℕ) (p : Image) (ws : List Warning) → WellFormed p → bytes ≡ serialize p → AreAll p ws →
     text ≡ warning_lines line ws → IsWarned line bytes text

@@ -15,10 +15,10 @@ use aom_link_conditions::LinkPlace;
 use aom_warnings::{Warning, warnings};
 use std::alloc::{AllocError, Global};
 
-fn place_of(warning: Warning) -> LinkPlace
-    ensures { result ≡ place_of warning }
+fn place_of(warning: &Warning) -> LinkPlace
+    ensures { result ≡ place_of warning.now }
 {
-    match warning {
+    match *warning {
         Warning::NeverMade(class) | Warning::NeverRead(class, _) => LinkPlace::Class(class),
         Warning::NeverCalled(method) => LinkPlace::Method(method),
         Warning::NeverReached(method, place) => LinkPlace::Instruction(method, place),
@@ -59,11 +59,11 @@ fn write_subject(
     out: &mut FigureWriter,
     classes: &[&[u8]],
     methods: &[&[u8]],
-    warning: Warning,
+    warning: &Warning,
 ) -> Result<(), AllocError>
-    ensures { OnOk result (out.new ≡ out.old ++ subject (map (λ w. w.now) classes.now) (map (λ w. w.now) methods.now) warning) }
+    ensures { OnOk result (out.new ≡ out.old ++ subject (map (λ w. w.now) classes.now) (map (λ w. w.now) methods.now) warning.now) }
 {
-    match warning {
+    match *warning {
         Warning::NeverMade(class) => write_label(out, classes, b"class ", class.number()),
         Warning::NeverRead(class, _) => write_label(out, classes, b"class ", class.number()),
         Warning::NeverCalled(method) => write_label(out, methods, b"method ", method.number()),
@@ -73,10 +73,10 @@ fn write_subject(
 }
 
 /// Writes what a warning says.
-fn write_message(out: &mut FigureWriter, warning: Warning) -> Result<(), AllocError>
-    ensures { OnOk result (out.new ≡ out.old ++ message warning) }
+fn write_message(out: &mut FigureWriter, warning: &Warning) -> Result<(), AllocError>
+    ensures { OnOk result (out.new ≡ out.old ++ message warning.now) }
 {
-    match warning {
+    match *warning {
         Warning::NeverMade(_) => out.words(b": no object of it is made"),
         Warning::NeverRead(_, field) => {
             out.count(b": nothing reads the field ", u64::from(field.number()))
@@ -101,8 +101,8 @@ fn write_line_number(out: &mut FigureWriter, line: Option<u32>) -> Result<(), Al
 }
 
 /// The line of a program's text that a warning is about.
-fn line_in(program: &LoadedProgram, warning: Warning) -> Option<u32>
-    ensures { result ≡ line_in program.now.text warning }
+fn line_in(program: &LoadedProgram, warning: &Warning) -> Option<u32>
+    ensures { result ≡ line_in program.now.text warning.now }
 {
     match program.text() {
         Some(text) => link_line(text.bytes(), place_of(warning)),
@@ -131,9 +131,9 @@ fn write_warning(
     line: Option<u32>,
     classes: &[&[u8]],
     methods: &[&[u8]],
-    warning: Warning,
+    warning: &Warning,
 ) -> Result<(), AllocError>
-    ensures { OnOk result (out.new ≡ out.old ++ warning_text telling.entry line (map (λ w. w.now) classes.now) (map (λ w. w.now) methods.now) warning) }
+    ensures { OnOk result (out.new ≡ out.old ++ warning_text telling.entry line (map (λ w. w.now) classes.now) (map (λ w. w.now) methods.now) warning.now) }
 {
     write_lead(out, telling, line)?;
     write_subject(out, classes, methods, warning)?;
@@ -155,8 +155,8 @@ fn write_warnings(
     ensures { OnOk result (out.new ≡ out.old ++ warning_lines (warning_line telling.entry program.now.text) warnings.now) }
 {
     for warning in warnings {
-        let line = line_in(program, *warning);
-        write_warning(out, telling, line, classes, methods, *warning)?;
+        let line = line_in(program, warning);
+        write_warning(out, telling, line, classes, methods, warning)?;
     }
     Ok(())
 }
