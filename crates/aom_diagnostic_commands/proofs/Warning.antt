@@ -1,11 +1,10 @@
 -- Lines of warnings one behind the other, and what the status answers of them.
-use Rattle.std.proofs.Common.{◌≡◌, ◌<◌, ◌+◌, ◌++◌, ◌∙◌, ℕ, suc, List, [], ◌∷◌, Ok, Err, OnOk, Result, decimal, ap, arith, append_assoc, inl, inr, length, refl, slice_index_or, subst, sym, take}
+use Rattle.std.proofs.Common.{◌≡◌, ◌<◌, ◌+◌, ◌++◌, ◌∙◌, ℕ, suc, List, [], ◌∷◌, Ok, Err, OnOk, Result, decimal, ap, arith, append_assoc, inl, inr, length, slice_index_or, subst, sym, take}
 use Rattle.std.proofs.Math.Seq.{take-suc}
 use Rattle.std.proofs.lemmas.List.{append-nil}
 use Rattle.aom_image.specs.Image.{Image}
 use Rattle.aom_image.specs.WellFormed.{WellFormed}
 use Rattle.aom_codec.specs.Serialization.{serialize}
-use Rattle.aom_transcript.specs.Sinks.{after}
 use Rattle.aom_warnings.specs.Warnings.{AreAll}
 use Rattle.aom_warnings.specs.declared.warning.Warning.{Warning}
 use Rattle.aom_commands.specs.Assembly.{RefusesBytes}
