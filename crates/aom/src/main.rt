@@ -12,7 +12,9 @@ ghost use Rattle.aom_commands.specs.Beside.{AreNew};
 
 use aom_command_line::{FileKind, RunWords, TriesWords, Words, WordsFault, read_words};
 use aom_commands::{ExitStatus, Fault, Translation, assemble_bytes, translate_bytes};
-use aom_diagnostic_commands::{Program, Telling, asm, check, check_all, debug, dot, explore, run};
+use aom_diagnostic_commands::{
+    Program, Telling, asm, check, check_all, debug, dot, explore, run, warn,
+};
 use aom_fault_injection::{Part, Tries};
 use aom_host::{Commands, Input, Output, ReadError, read_file};
 use aom_natives::{Counter, Delay, Line, Native, NativeKind};
@@ -175,15 +177,20 @@ fn execute<'a, W: Sink, E: Sink>(
             kind,
             prices,
             all,
+            warn: warned,
             text,
             ..
         } => {
             let files = ProgramFiles::read(rt, image, *kind, text)?;
             let program = files.program();
-            Ok(if *all {
+            let status = if *all {
                 check_all(alloc, program, telling, *prices, out, errors)
             } else {
                 check(alloc, program, telling, *prices, out, errors)
+            };
+            Ok(match status {
+                ExitStatus::Done if *warned => warn(alloc, program, telling, out, errors),
+                _ => status,
             })
         }
         Words::Run {

@@ -1,2 +1,3 @@
+mod Checking
 mod Reading
 mod Rules

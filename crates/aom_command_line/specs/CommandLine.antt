@@ -83,6 +83,10 @@ lines_rule = flag_rule (codes "lines")
 abbrev pub all_rule : Rule
 all_rule = flag_rule (codes "all")
 
+-- `--warn`
+abbrev pub warn_rule : Rule
+warn_rule = flag_rule (codes "warn")
+
 -- `--kills`
 abbrev pub kills_rule : Rule
 kills_rule = flag_rule (codes "kills")
@@ -135,9 +139,9 @@ native_rule =
 abbrev pub with_program : App → App
 with_program command = with_rule (with_rule (with_rule command asm_rule) source_rule) (file_rule (codes "IMAGE"))
 
--- check [--prices] [--explain] [--lines] [--all] [--text TEXT] [--asm] [--source] IMAGE
+-- check [--prices] [--explain] [--lines] [--all] [--warn] [--text TEXT] [--asm] [--source] IMAGE
 abbrev pub check_form : App
-check_form = with_program (with_rule (with_rule (with_rule (with_rule (with_rule (new_app (codes "check")) prices_rule) explain_rule) lines_rule) all_rule) text_rule)
+check_form = with_program (with_rule (with_rule (with_rule (with_rule (with_rule (with_rule (new_app (codes "check")) prices_rule) explain_rule) lines_rule) all_rule) warn_rule) text_rule)
 
 -- asm [--explain] TEXT
 abbrev pub asm_form : App
@@ -275,6 +279,11 @@ pub record AsksNames (rows : List Row) (kind : FileKind) (names : Bool) : Type 0
   pub set : IsFlag (one_of (codes "names") rows) names
   pub textual : names ≡ true → (is_image kind ≡ false) ⊎ (first_of (codes "text") rows ≢ None)
 
+-- where the words found for a command ask for warnings, its file is no source
+pub record AsksWarnings (rows : List Row) (kind : FileKind) (warn : Bool) : Type 0 where
+  pub set : IsFlag (one_of (codes "warn") rows) warn
+  pub alone : warn ≡ true → is_source kind ≡ false
+
 -- none of these flags is set
 abbrev pub AllUnset : List Text → List Row → Type 0
 AllUnset [] rows = Unit {0}
@@ -306,6 +315,11 @@ pub record AsksTwoReportings (rows : List Row) : Type 0 where
   pub lined : one_of (codes "lines") rows ≢ Some (codes "false")
   pub explained : one_of (codes "explain") rows ≢ Some (codes "false")
 
+-- the words found for a command ask for warnings of a source
+pub record WarnsOfSource (rows : List Row) : Type 0 where
+  pub warned : one_of (codes "warn") rows ≢ Some (codes "false")
+  pub source : one_of (codes "source") rows ≢ Some (codes "false")
+
 -- why a text beside an image is refused
 abbrev pub DeclinesText : List Row → (used : Bool) → WordsFault → Type 0
 DeclinesText rows used (faults.Text text) = ((first_of (codes "text") rows ≢ None) × (used ≡ false)) ⊎ NamesTwoTexts rows
@@ -323,6 +337,12 @@ abbrev pub DeclinesLines : List Row → WordsFault → Type 0
 DeclinesLines rows (faults.Text text) = AsksTwoReportings rows ⊎ LacksText (codes "lines") rows
 DeclinesLines rows faults.Native = ⊥
 DeclinesLines rows faults.Memory = Unit {0}
+
+-- why warnings are refused
+abbrev pub DeclinesWarnings : List Row → WordsFault → Type 0
+DeclinesWarnings rows (faults.Text text) = WarnsOfSource rows
+DeclinesWarnings rows faults.Native = ⊥
+DeclinesWarnings rows faults.Memory = Unit {0}
 
 -- the words found ask for these tries
 pub record AsksTries (rows : List Row) (tries : TriesWords) : Type 0 where
@@ -342,10 +362,10 @@ DeclinesTextless id rows faults.Memory = Unit {0}
 -- a command and the words found for it ask this
 abbrev pub Asks : Option (Text × List Row) → Words → Type 0
 Asks None words = ⊥
-Asks (Some met) (Check image kind prices explain lines all text) =
+Asks (Some met) (Check image kind prices explain lines all warn text) =
     (met.0 ≡ codes "check") × (string_bytes image ≡ word_of (codes "IMAGE") met.1) × AsksKind met.1 kind
     × IsFlag (one_of (codes "prices") met.1) prices × IsFlag (one_of (codes "explain") met.1) explain
-    × AsksLines met.1 explain kind lines × IsFlag (one_of (codes "all") met.1) all × AsksText met.1 ((explain || lines) || prices) kind text
+    × AsksLines met.1 explain kind lines × IsFlag (one_of (codes "all") met.1) all × AsksWarnings met.1 kind warn × AsksText met.1 ((explain || lines) || prices) kind text
 Asks (Some met) (Run run explain names text) =
     (met.0 ≡ codes "run") × AsksRun met.1 run × IsFlag (one_of (codes "explain") met.1) explain
     × AsksNames met.1 run.kind names × AsksText met.1 (explain || names) run.kind text
@@ -370,11 +390,11 @@ NamesNoNatives None = ⊥
 NamesNoNatives (Some met) = ((met.0 ≡ codes "run") ⊎ (met.0 ≡ codes "explore") ⊎ (met.0 ≡ codes "debug")) × NamesNoKinds (all_of (codes "NATIVE") met.1)
 
 -- it is a command about a program, with words that do not fit together: two kinds of its file, a text that is of no use, two texts, lines or names of no text,
--- or lines beside an explanation
+-- lines beside an explanation, or warnings of a source
 abbrev pub HasNoUseForText : Option (Text × List Row) → Type 0
 HasNoUseForText None = ⊥
 HasNoUseForText (Some met) =
-    ((met.0 ≡ codes "check") × (SaysTwoKinds met.1 ⊎ LacksUse (codes "explain" ∷ codes "lines" ∷ codes "prices" ∷ []) met.1 ⊎ NamesTwoTexts met.1 ⊎ LacksText (codes "lines") met.1 ⊎ AsksTwoReportings met.1))
+    ((met.0 ≡ codes "check") × (SaysTwoKinds met.1 ⊎ LacksUse (codes "explain" ∷ codes "lines" ∷ codes "prices" ∷ []) met.1 ⊎ NamesTwoTexts met.1 ⊎ LacksText (codes "lines") met.1 ⊎ AsksTwoReportings met.1 ⊎ WarnsOfSource met.1))
     ⊎ ((met.0 ≡ codes "run") × (SaysTwoKinds met.1 ⊎ LacksUse (codes "explain" ∷ codes "names" ∷ []) met.1 ⊎ NamesTwoTexts met.1 ⊎ LacksText (codes "names") met.1))
     ⊎ (((met.0 ≡ codes "explore") ⊎ (met.0 ≡ codes "debug") ⊎ (met.0 ≡ codes "dot")) × (SaysTwoKinds met.1 ⊎ NamesTwoTexts met.1))
 
@@ -396,7 +416,7 @@ Says kind faults.Memory = Unit {0}
 
 -- what is known of the limit of runs
 abbrev pub KeepsLimit : Words → Type 0
-KeepsLimit (Check image kind prices explain lines all text) = Unit {0}
+KeepsLimit (Check image kind prices explain lines all warn text) = Unit {0}
 KeepsLimit (Run run explain names text) = (1 ≤ run.limit) × (run.limit ≤ 1000000000)
 KeepsLimit (Explore run tries text) = (1 ≤ run.limit) × (run.limit ≤ 1000000000)
 KeepsLimit (Debug run prompt text) = (1 ≤ run.limit) × (run.limit ≤ 1000000000)

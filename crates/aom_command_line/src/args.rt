@@ -1,7 +1,7 @@
 //! The arguments of commands.
 ghost use Rattle.std.specs.Prelude.{◌≡◌, false};
 ghost use Rattle.clap.specs.Words.{rule_of};
-ghost use Rattle.aom_command_line.specs.CommandLine.{all_rule, asm_rule, deaths_rule, explain_rule, file_rule, flag_rule, from_rule, kills_rule, limit_rule, lines_rule, map_rule, names_rule, native_rule, number_rule, pairs_rule, prices_rule, prompt_rule, source_rule, text_rule, to_rule, tries_rule};
+ghost use Rattle.aom_command_line.specs.CommandLine.{all_rule, asm_rule, deaths_rule, explain_rule, file_rule, flag_rule, from_rule, kills_rule, limit_rule, lines_rule, map_rule, names_rule, native_rule, number_rule, pairs_rule, prices_rule, prompt_rule, source_rule, text_rule, to_rule, tries_rule, warn_rule};
 
 use clap::builder::ValueParser;
 use clap::{Arg, ArgAction, value_parser};
@@ -137,6 +137,17 @@ pub fn all_arg<'a>(alloc: Global) -> Arg<'a>
         alloc,
         "all",
         "Tells the first fault of each method that is refused, and not of the first alone",
+    )
+}
+
+pub fn warn_arg<'a>(alloc: Global) -> Arg<'a>
+    ensures rule { rule_of result ≡ warn_rule }
+    ensures own { result.global ≡ false }
+{
+    flag_arg(
+        alloc,
+        "warn",
+        "Also tells what nobody may have wanted of an image that is accepted",
     )
 }
 

@@ -6,7 +6,7 @@ ghost use Rattle.aom_command_line.specs.CommandLine.{HasForm, asm_form, check_fo
 use crate::args::{
     all_arg, asm_arg, deaths_arg, explain_arg, file_arg, from_arg, kills_arg, limit_arg, lines_arg,
     map_arg, names_arg, native_arg, pairs_arg, prices_arg, prompt_arg, source_arg, text_arg,
-    to_arg, tries_arg,
+    to_arg, tries_arg, warn_arg,
 };
 use clap::{Arg, Command};
 use std::alloc::{AllocError, Global};
@@ -122,6 +122,7 @@ fn check_command<'a>(alloc: Global) -> Result<Command<'a>, AllocError>
     let command = with_arg(command, explain_arg(alloc));
     let command = with_arg(command, lines_arg(alloc));
     let command = with_arg(command, all_arg(alloc));
+    let command = with_arg(command, warn_arg(alloc));
     let command = with_arg(command, text_arg(alloc));
     with_program(alloc, command)
 }

@@ -2,7 +2,7 @@
 ghost use Rattle.std.specs.Prelude.{◌≡◌, ◌≢◌, ◌≤◌, ◌⊎◌, IfOk, IfErr, None, Some, false, true, codes, length};
 ghost use Rattle.std.specs.String.{string_bytes};
 ghost use Rattle.clap.specs.Words.{all_of, first_of, found_of, kind_of, one_of, rows_of, subcommand_of, subcommand_rows_of, takes};
-ghost use Rattle.aom_command_line.specs.CommandLine.{form, texts_of, word_of, Asks, AsksKind, AsksLines, AsksNames, AsksRun, AsksText, AsksTries, Declines, DeclinesKind, DeclinesLines, DeclinesNatives, DeclinesRun, DeclinesText, DeclinesTextless, IsFlag, IsNumberUpTo, KeepsLimit, NamesKinds, Says, is_assembly, is_image, texts_in};
+ghost use Rattle.aom_command_line.specs.CommandLine.{form, texts_of, word_of, Asks, AsksKind, AsksLines, AsksNames, AsksRun, AsksText, AsksTries, AsksWarnings, Declines, DeclinesKind, DeclinesLines, DeclinesNatives, DeclinesRun, DeclinesText, DeclinesTextless, DeclinesWarnings, IsFlag, IsNumberUpTo, KeepsLimit, NamesKinds, Says, is_assembly, is_image, is_source, texts_in};
 
 use crate::forms::aom_command;
 use aom_natives::NativeKind;
@@ -27,6 +27,12 @@ impl FileKind {
         matches!(self, FileKind::Assembly)
     }
 
+    fn is_source(self) -> bool
+        ensures { result ≡ is_source self }
+    {
+        matches!(self, FileKind::Source)
+    }
+
     fn is_image(self) -> bool
         ensures { result ≡ is_image self }
     {
@@ -48,6 +54,8 @@ pub enum Words {
         lines: bool,
         /// Whether the first fault of each method is to be told.
         all: bool,
+        /// Whether warnings of an accepted image are asked for.
+        warn: bool,
         /// The text that the image is of, whose lines are told.
         text: Option<String>,
     },
@@ -240,8 +248,10 @@ fn check_words(alloc: Global, own: &ArgMatches) -> Result<Words, WordsFault>
     let lines = is_set(own, "lines");
     let prices = is_set(own, "prices");
     let all = is_set(own, "all");
+    let warn = is_set(own, "warn");
     let kind = file_kind_of(alloc, own)?;
     fit_lines(alloc, own, explain, kind, lines)?;
+    fit_warnings(alloc, own, kind, warn)?;
     Ok(Words::Check {
         text: text_of(alloc, own, explain | lines | prices, kind)?,
         image: word_of(alloc, own, "IMAGE")?,
@@ -250,6 +260,7 @@ fn check_words(alloc: Global, own: &ArgMatches) -> Result<Words, WordsFault>
         explain,
         lines,
         all,
+        warn,
     })
 }
 
@@ -305,6 +316,28 @@ fn fit_lines(
         kind.is_assembly(),
         "error: --lines asks for --asm or --text\n",
     )
+}
+
+/// Refuses warnings of a source, whose author knows no registers.
+fn fit_warnings(
+    alloc: Global,
+    own: &ArgMatches,
+    kind: FileKind,
+    warn: bool,
+) -> Result<(), WordsFault>
+    requires kind { AsksKind (rows_of (found_of own.now)) kind }
+    requires warn { IsFlag (one_of (codes "warn") (rows_of (found_of own.now))) warn }
+    ensures asks { IfOk result (λ _. AsksWarnings (rows_of (found_of own.now)) kind warn) }
+    ensures declines { IfErr result (λ fault. DeclinesWarnings (rows_of (found_of own.now)) fault) }
+{
+    let _matches = own;
+    if warn && kind.is_source() {
+        return Err(WordsFault::Text(String::from_str(
+            alloc,
+            "error: --warn has no use beside --source\n",
+        )?));
+    }
+    Ok(())
 }
 
 /// Refuses so what only a text can give where there is none.

@@ -7,6 +7,7 @@ mod Placing
 mod Saying
 mod Told
 mod Untyped
+mod Warning
 pub use Rattle.aom_commands.proofs.CommandsLemmas
 pub use Rattle.aom_abstract_state.proofs.AbstractStateLemmas
 pub use Rattle.aom_static_bounds.proofs.StaticBoundsLemmas

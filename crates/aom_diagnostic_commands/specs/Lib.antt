@@ -9,3 +9,4 @@ pub mod Unread
 pub mod Tellings
 pub mod Programs
 pub mod EachMethod
+pub mod Warned

@@ -13,13 +13,15 @@ ghost use Rattle.aom_diagnostic_commands.specs.EachMethod.{AnswersAll};
 ghost use Rattle.aom_diagnostic_commands.specs.Naming.{line_in};
 ghost use Rattle.aom_diagnostic_commands.specs.Programs.{Answers};
 ghost use Rattle.aom_diagnostic_commands.specs.Tellings.{names_in};
+ghost use Rattle.aom_diagnostic_commands.specs.Warned.{WarnsBy, warning_line};
 ghost use Rattle.aom_diagnostic_commands.specs.declared.telling.Telling.TheVariants.{Plain};
 
 use crate::debugging::try_debug_told;
 use crate::each_method::answer_all;
 use crate::naming::{try_check_told, try_draw_told, try_run_told};
-use crate::program::Program;
+use crate::program::{LoadedProgram, Program};
 use crate::telling::Telling;
+use crate::warned::warned_text;
 use aom_commands::{ExitStatus, Fault, explore_bytes};
 use aom_debug::Reader;
 use aom_fault_injection::Tries;
@@ -65,6 +67,40 @@ pub fn check_all<W: Sink, E: Sink>(
             answer_all(alloc, telling, found, &loaded, errors)
         }
         Err(fault) => telling.refuse(alloc, &fault, program.text(), errors),
+    }
+}
+
+/// Writes the warnings of a program's image, one in a line, by its text where there is one. It asks not whether the image is accepted.
+pub fn warn<W: Sink, E: Sink>(
+    alloc: Global,
+    program: Program<'_>,
+    telling: Telling<'_>,
+    out: &mut W,
+    errors: &mut E,
+) -> ExitStatus
+    ensures { Answers telling.entry program.entry [] (W.out out.new ≡ W.out out.old) (λ image text. WarnsBy (warning_line telling.entry text) image (over W.out W.failed out.old out.new)) (over E.out E.failed errors.old errors.new) result }
+{
+    match program.load(alloc) {
+        Ok(loaded) => {
+            let found = try_warn(alloc, &loaded, telling, out);
+            telling.answer(alloc, found, &loaded, b"", errors)
+        }
+        Err(fault) => telling.refuse(alloc, &fault, program.text(), errors),
+    }
+}
+
+/// Writes the warnings of an image, and leaves its fault to be told.
+fn try_warn<W: Sink>(
+    alloc: Global,
+    program: &LoadedProgram,
+    telling: Telling,
+    out: &mut W,
+) -> Result<ExitStatus, Fault>
+    ensures { Unreported (WarnsBy (warning_line telling.entry program.now.text) program.now.image (over W.out W.failed out.old out.new)) result }
+{
+    match warned_text(alloc, program, telling) {
+        Ok(text) => try_send(&text, out),
+        Err(fault) => Err(fault),
     }
 }
 

@@ -34,6 +34,7 @@ complete -c aom -n '__fish_seen_subcommand_from check' -l prices -d 'Also tells 
 complete -c aom -n '__fish_seen_subcommand_from check' -l explain -d 'Explains a fault: what it means, where it is, and what usually mends it'
 complete -c aom -n '__fish_seen_subcommand_from check' -l lines -d 'Tells a fault in one line with its file and line, as compilers do; needs --asm or --text'
 complete -c aom -n '__fish_seen_subcommand_from check' -l all -d 'Tells the first fault of each method that is refused, and not of the first alone'
+complete -c aom -n '__fish_seen_subcommand_from check' -l warn -d 'Also tells what nobody may have wanted of an image that is accepted'
 complete -c aom -n '__fish_seen_subcommand_from check' -l text -d 'The text that the image was made of, to tell things by its names and lines' -r -k -a '(__fish_complete_suffix .aom)'
 complete -c aom -n '__fish_seen_subcommand_from check' -l asm -d 'Takes an assembly text in place of the image, and assembles it first'
 complete -c aom -n '__fish_seen_subcommand_from check' -l source -d 'Takes a source in place of the image, and compiles it first'

@@ -15,6 +15,8 @@ returns c =
     c.lines_arg.ensures.own in
     let all = next c.all_arg.result _ _ c.with_arg-command-2.result c.with_arg-command-3.result c.with_arg-command-3.ensures lines c.all_arg.ensures.rule
     c.all_arg.ensures.own in
-    let text = next c.text_arg.result _ _ c.with_arg-command-3.result c.with_arg-command-4.result c.with_arg-command-4.ensures all c.text_arg.ensures.rule
+    let warn = next c.warn_arg.result _ _ c.with_arg-command-3.result c.with_arg-command-4.result c.with_arg-command-4.ensures all c.warn_arg.ensures.rule
+    c.warn_arg.ensures.own in
+    let text = next c.text_arg.result _ _ c.with_arg-command-4.result c.with_arg-command-5.result c.with_arg-command-5.ensures warn c.text_arg.ensures.rule
     c.text_arg.ensures.own in
     c.with_program.ensures _ text
