@@ -6,5 +6,7 @@ pub use aom_commands::{
     prices_bytes, report, run_bytes, translate_bytes, try_check, try_run,
 };
 pub use aom_debug::debug_bytes;
-pub use aom_diagnostic_commands::{Program, Telling, asm, check, debug, dot, explore, run, warn};
+pub use aom_diagnostic_commands::{
+    Program, Telling, asm, check, check_all, debug, dot, explore, run, warn,
+};
 pub use aom_fault_injection::{Part, Tries};
