@@ -35,7 +35,7 @@ for at, word in enumerate(sys.argv[1:]):
         word = word if is_below else f"{{head}}{{equals}}{{name}}"
     words.append(word)
 is_folder = stat.S_ISDIR(os.fstat(3).st_mode)
-is_reader = not is_folder and (sys.argv[1:2] == ["debug"] or any(it.endswith("/dev/stdin") for it in words))
+is_reader = not is_folder and (sys.argv[1:2] in (["debug"], ["lsp"]) or any(it == "-" or it.endswith("/dev/stdin") for it in words))
 if is_folder:
     os.mkdir(f"{{call}}/stdin")
 else:

@@ -203,7 +203,7 @@ def code_package():
     languages = [{"id": it, "aliases": [name], "extensions": [ending], "configuration": f"./{file}.json"} for it, name, ending, file in LANGUAGES]
     grammars = [{"language": it, "scopeName": f"source.{it}", "path": f"./syntaxes/{it}.tmLanguage.json"} for it, *_ in LANGUAGES]
     contributes = {"languages": languages, "grammars": grammars, "problemMatchers": PROBLEMS}
-    head = {"name": "aom", "displayName": "aom", "description": "Sources and assembly texts of aom", "version": form.version(), "publisher": "lumetriko", "license": "MIT OR Apache-2.0"}
+    head = {"name": "aom", "displayName": "aom", "description": "Sources and assembly texts of aom; aom lsp is the language server of sources", "version": form.version(), "publisher": "lumetriko", "license": "MIT OR Apache-2.0"}
     return told({**head, "engines": {"vscode": "^1.70.0"}, "categories": ["Programming Languages"], "contributes": contributes})
 
 

@@ -38,7 +38,8 @@ def option_rows(command):
 def command_help(command):
     words = "".join(f" {f'[{it.name}]...' if it.many else f'<{it.name}>'}" for it in command.arguments)
     options = " [OPTIONS]" if command.options else ""
-    return [command.about, "", f"Usage: aom {command.name}{options}{words}", "", "Arguments:", *argument_rows(command), "", "Options:", *option_rows(command)]
+    arguments = ["", "Arguments:", *argument_rows(command)] if command.arguments else []
+    return [command.about, "", f"Usage: aom {command.name}{options}{words}", *arguments, "", "Options:", *option_rows(command)]
 
 
 def help_asked(words):

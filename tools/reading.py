@@ -609,6 +609,7 @@ class Reading(World):
 
     def do_close(self, frame, _it):
         frame.this.has_session = False
+        self.changes += 1
 
     def do_reply(self, frame, it):
         code = self.word(frame, it.second)

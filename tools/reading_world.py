@@ -177,14 +177,17 @@ class World:
     # requests
 
     def enlist(self, thing, priority):
+        self.changes += 1
         thing.phase, thing.status, thing.priority = "idle", 0, priority
         self.enlisted.append(thing)
 
     def after(self, thing, time):
+        self.changes += 1
         self.timings += 1
         thing.phase, thing.status, thing.due, thing.is_timed = "active", PENDING, self.clock + max(time, 0), self.timings
 
     def resume(self, thing, code):
+        self.changes += 1
         thing.phase = "active"
         thing.complete(code)
 
@@ -192,6 +195,7 @@ class World:
         return self.natives[thing.cls.native]
 
     def request(self, thing, function, word):
+        self.changes += 1
         native = self.native_of(thing)
         thing.phase, thing.status = "active", PENDING
         answer = GONE if native is None else NOT_FOUND if not thing.has_session else native.start(thing, function, word)
@@ -199,17 +203,20 @@ class World:
             thing.complete(answer)
 
     def connect(self, thing):
+        self.changes += 1
         if self.native_of(thing) is None:
             return NOT_FOUND
         thing.has_session = True
         return 0
 
     def ask(self, thing, function, word):
+        self.changes += 1
         native = self.native_of(thing)
         return GONE if native is None else NOT_FOUND if not thing.has_session else native.call(function, word)
 
     def hand(self, thing):
         """A token, or none where there is no place for a message."""
+        self.changes += 1
         thing.phase = "active"
         if self.messages >= self.program.messages:
             thing.complete(BUSY)
@@ -219,6 +226,7 @@ class World:
         return thing.token
 
     def abort(self, thing):
+        self.changes += 1
         if thing.status == PENDING:
             if thing.cls.kind == "native" and self.native_of(thing):
                 self.native_of(thing).cancel(thing)

@@ -35,6 +35,7 @@ pub fn double(number: u8) -> u16
 PAGE = "tests/numbers.md"
 EDIT = f"shown: {PAGE}\nfile: src/lib.rt\nold: number as u16 * 2\nnew: "
 WRONG, RIGHT = "counts/must-fail/double-is-threefold.edit", "counts/must-fail/double-in-other-words.edit"
+NO_CODE = "counts/must-fail/double-is-no-code.edit"
 FILES = {
     "crates.txt": "counts:\naom: counts\n",
     "HANDLES": "Handles allowed: none.\n",
@@ -49,7 +50,7 @@ FILES = {
 
 
 def shown_is_well(top, tell):
-    """Whether just the right body comes out as not shown, and the wrong one is kept until its page is another."""
+    """Whether just the right body comes out as not shown, the wrong one is kept until its page is another, and one that is no code is told where no other is left to try."""
     for file, text in FILES.items():
         write_text(f"{top}/{file}", text)
     here = os.path.dirname(os.path.realpath(__file__))
@@ -72,4 +73,7 @@ def shown_is_well(top, tell):
     kept = said() == (0, ["shown: 1 of 1 seen by an earlier run here, of the same texts", "1 tried, 0 failed"])
     write_text(f"{top}/{PAGE}", FILES[PAGE].replace("# Numbers", "# Doubles"))
     anew = said() == (0, ["shown: 0 of 1 seen by an earlier run here, of the same texts", "1 tried, 0 failed"])
-    return both and kept and anew
+    write_text(f"{top}/crates/{NO_CODE}", f"{EDIT}number.of_no_type()\n")
+    status, lines = said()
+    no_code = status == 1 and lines[0].startswith(f"shown: FAILED: {NO_CODE.replace('must-fail/', '')}: no program was made: ")
+    return both and kept and anew and no_code

@@ -13,10 +13,11 @@ ghost use Rattle.aom_commands.specs.Beside.{AreNew};
 use aom_command_line::{FileKind, RunWords, TriesWords, Words, WordsFault, read_words};
 use aom_commands::{ExitStatus, Fault, Translation, assemble_bytes, translate_bytes};
 use aom_diagnostic_commands::{
-    Program, Telling, asm, check, check_all, debug, dot, explore, run, warn,
+    Program, Telling, asm, check, check_all, debug, dot, explore, run, warn, warn_script,
 };
 use aom_fault_injection::{Part, Tries};
 use aom_host::{Commands, Input, Output, ReadError, read_file};
+use aom_language_server::{Ended, serve as serve_editor};
 use aom_natives::{Counter, Delay, Line, Native, NativeKind};
 use aom_source_commands::{Emit, compile_source, script_of_source, show_source};
 use aom_transcript::{Sink, write_text};
@@ -196,11 +197,18 @@ fn execute<'a, W: Sink, E: Sink>(
         Words::Run {
             run,
             names,
+            warn,
             text,
             ..
         } => {
             let names = *names || run.kind == FileKind::Source;
-            run_beside(rt, run, text, Purpose::Run { telling, names }, out, errors)
+            let warn = *warn;
+            let purpose = Purpose::Run {
+                telling,
+                names,
+                warn,
+            };
+            run_beside(rt, run, text, purpose, out, errors)
         }
         Words::Debug { run, prompt, text } => {
             let (file, prompt) = (text_name(run, text), *prompt);
@@ -239,11 +247,25 @@ fn execute<'a, W: Sink, E: Sink>(
                 Err(fault) => Ok(telling.report(alloc, &fault, b"", errors)),
             }
         }
+        Words::Lsp => Ok(lsp(rt, telling, errors)),
         Words::Dot { image, kind, text } => {
             let files = ProgramFiles::read(rt, image, *kind, text)?;
             Ok(dot(alloc, files.program(), out, errors))
         }
     }
+}
+
+/// Answers an editor at standard input and output, until it ends the session or the input is at its end. What ends with no `shutdown` before has the status that
+/// the protocol wants, that of a refusal.
+fn lsp<E: Sink>(rt: &HostRuntime, telling: Telling<'_>, errors: &mut E) -> ExitStatus {
+    let (mut input, mut out) = (Input::new(rt.stdin()), Output::new(rt.stdout()));
+    let fault = match serve_editor(rt.alloc(), &mut input, MAX_READS, &mut out) {
+        Ok(Ended::InOrder) => return ExitStatus::Done,
+        Ok(Ended::Early) => return ExitStatus::ImageRefused,
+        Ok(Ended::Failed) => Fault::Write,
+        Err(_) => Fault::Memory,
+    };
+    telling.report(rt.alloc(), &fault, b"", errors)
 }
 
 /// The bytes of the files of a run.
@@ -295,10 +317,17 @@ fn text_name<'a>(run: &'a RunWords, text: &'a Option<String>) -> &'a [u8] {
 /// What a program and its natives are for.
 #[derive(Clone, Copy)]
 enum Purpose<'a> {
-    /// To run, and to tell a fault so; with the names of the program's text in the transcript, or with numbers.
-    Run { telling: Telling<'a>, names: bool },
+    /// To run, and to tell a fault so; with the names of the program's text in the transcript, or with numbers; and with warnings of the script before.
+    Run {
+        telling: Telling<'a>,
+        names: bool,
+        warn: bool,
+    },
     /// To run as the commands say that come from standard input, each behind a prompt, if one is asked for; the program's text is in that file.
-    Debug { file: &'a [u8], prompt: bool },
+    Debug {
+        file: &'a [u8],
+        prompt: bool,
+    },
 }
 
 impl<'a> Purpose<'a> {
@@ -319,9 +348,18 @@ impl<'a> Purpose<'a> {
         let (alloc, limit) = (rt.alloc(), words.limit);
         let (program, script) = (files.program.program(), &files.script);
         match self {
-            Purpose::Run { telling, names } => run(
-                alloc, program, telling, names, script, limit, boxes, out, errors,
-            ),
+            Purpose::Run {
+                telling,
+                names,
+                warn,
+            } => {
+                if warn {
+                    warn_script(alloc, program, script, errors);
+                }
+                run(
+                    alloc, program, telling, names, script, limit, boxes, out, errors,
+                )
+            }
             Purpose::Debug { file, prompt } => {
                 let (mut out, mut commands) = (Output::new(rt.stdout()), commands_of(rt, prompt));
                 debug(

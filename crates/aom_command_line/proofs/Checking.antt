@@ -1,4 +1,4 @@
--- Why a text beside an image that is to be checked is refused.
+-- Why a text beside an image that is to be checked, or to be run, is refused.
 use Rattle.std.proofs.Common.{◌≡◌, ◌||◌, Bool, false, true, List, Some, codes, inl, inr, arith, refl}
 use Rattle.clap.specs.Words.{Row, one_of}
 use Rattle.aom_command_line.specs.declared.words.WordsFault.{WordsFault}
@@ -35,3 +35,23 @@ checks_no_text rows explain lines prices (faults.Text text) e l p (inl lacks) = 
 checks_no_text rows explain lines prices (faults.Text text) e l p (inr two) = λ taken command. inl (refl, inr (inr (inl two)))
 checks_no_text rows explain lines prices faults.Native e l p d = absurd d
 checks_no_text rows explain lines prices faults.Memory e l p d = d
+
+pub runs_no_text : (rows : List Row) (explain names warn : Bool) (fault : WordsFault) → IsFlag (one_of (codes "explain") rows) explain →
+    IsFlag (one_of (codes "names") rows) names → IsFlag (one_of (codes "warn") rows) warn → DeclinesText rows ((explain || names) || warn) fault →
+    Declines true (Some (codes "run", rows)) fault
+runs_no_text rows explain names warn (faults.Text text) e n w (inl lacks) = λ taken command. inr (inl (
+  refl,
+  inr (inl (record {
+    named = lacks.0;
+    unasked = (
+      unset rows (codes "explain") explain e (explain_unset explain names warn lacks.1),
+      (
+        unset rows (codes "names") names n (lines_unset explain names warn lacks.1),
+        (unset rows (codes "warn") warn w (prices_unset explain names warn lacks.1), tt),
+      ),
+    );
+  })),
+))
+runs_no_text rows explain names warn (faults.Text text) e n w (inr two) = λ taken command. inr (inl (refl, inr (inr (inl two))))
+runs_no_text rows explain names warn faults.Native e n w d = absurd d
+runs_no_text rows explain names warn faults.Memory e n w d = d

@@ -20,7 +20,7 @@ use Rattle.aom_command_line.specs.declared.words.FileKind.TheVariants.{Image, As
 use Rattle.aom_command_line.specs.declared.words.RunWords.{RunWords}
 use Rattle.aom_command_line.specs.declared.words.TriesWords.{TriesWords}
 use Rattle.aom_command_line.specs.declared.words.Words.{Words}
-use Rattle.aom_command_line.specs.declared.words.Words.TheVariants.{Check, Run, Explore, Debug, Asm, Dis, Compile, Show, Dot}
+use Rattle.aom_command_line.specs.declared.words.Words.TheVariants.{Check, Run, Explore, Debug, Asm, Dis, Compile, Show, Dot, Lsp}
 use Rattle.aom_command_line.specs.declared.words.WordsFault.{WordsFault}
 use Rattle.aom_command_line.specs.declared.words.WordsFault.TheVariants as faults
 
@@ -167,9 +167,9 @@ dot_form = with_program (with_rule (new_app (codes "dot")) text_rule)
 abbrev pub with_files : App → App
 with_files command = with_rule (with_rule (with_program command) (file_rule (codes "SCRIPT"))) native_rule
 
--- run [--limit N] [--explain] [--names] [--text TEXT] [--asm] [--source] IMAGE SCRIPT [NATIVE]..
+-- run [--limit N] [--explain] [--names] [--warn] [--text TEXT] [--asm] [--source] IMAGE SCRIPT [NATIVE]..
 abbrev pub run_form : App
-run_form = with_files (with_rule (with_rule (with_rule (with_rule (new_app (codes "run")) limit_rule) explain_rule) names_rule) text_rule)
+run_form = with_files (with_rule (with_rule (with_rule (with_rule (with_rule (new_app (codes "run")) limit_rule) explain_rule) names_rule) warn_rule) text_rule)
 
 -- explore [--limit N] [--from N] [--to N] [--kills] [--deaths] [--pairs] [--tries N] [--text TEXT] [--asm] [--source] IMAGE SCRIPT [NATIVE]..
 abbrev pub explore_form : App
@@ -180,14 +180,18 @@ explore_form =
 abbrev pub debug_form : App
 debug_form = with_files (with_rule (with_rule (with_rule (new_app (codes "debug")) limit_rule) prompt_rule) text_rule)
 
+-- lsp
+abbrev pub lsp_form : App
+lsp_form = new_app (codes "lsp")
+
 -- the program's name, its version, and one of these
 abbrev pub bare_form : App
 bare_form = record { top = record (new_app (codes "aom")).top { has_version = true; subcommand_required = true }; subs = [] }
 
 abbrev pub form : App
 form =
-    with_subcommand (with_subcommand (with_subcommand (with_subcommand (with_subcommand (with_subcommand (with_subcommand (with_subcommand (with_subcommand bare_form check_form.top) run_form.top) explore_form.top) debug_form.top)
-    asm_form.top) dis_form.top) dot_form.top) compile_form.top) show_form.top
+    with_subcommand (with_subcommand (with_subcommand (with_subcommand (with_subcommand (with_subcommand (with_subcommand (with_subcommand (with_subcommand (with_subcommand bare_form check_form.top) run_form.top) explore_form.top) debug_form.top)
+    asm_form.top) dis_form.top) dot_form.top) compile_form.top) show_form.top) lsp_form.top
 
 -- the texts of words
 abbrev pub texts_of : {A : Type 0} → List (String A) → List Text
@@ -366,9 +370,9 @@ Asks (Some met) (Check image kind prices explain lines all warn text) =
     (met.0 ≡ codes "check") × (string_bytes image ≡ word_of (codes "IMAGE") met.1) × AsksKind met.1 kind
     × IsFlag (one_of (codes "prices") met.1) prices × IsFlag (one_of (codes "explain") met.1) explain
     × AsksLines met.1 explain kind lines × IsFlag (one_of (codes "all") met.1) all × AsksWarnings met.1 kind warn × AsksText met.1 ((explain || lines) || prices) kind text
-Asks (Some met) (Run run explain names text) =
+Asks (Some met) (Run run explain names warn text) =
     (met.0 ≡ codes "run") × AsksRun met.1 run × IsFlag (one_of (codes "explain") met.1) explain
-    × AsksNames met.1 run.kind names × AsksText met.1 (explain || names) run.kind text
+    × AsksNames met.1 run.kind names × AsksWarnings met.1 run.kind warn × AsksText met.1 ((explain || names) || warn) run.kind text
 Asks (Some met) (Explore run tries text) = (met.0 ≡ codes "explore") × AsksRun met.1 run × AsksTries met.1 tries × AsksText met.1 true run.kind text
 Asks (Some met) (Debug run prompt text) = (met.0 ≡ codes "debug") × AsksRun met.1 run × IsFlag (one_of (codes "prompt") met.1) prompt × AsksText met.1 true run.kind text
 Asks (Some met) (Asm text explain) = (met.0 ≡ codes "asm") × (string_bytes text ≡ word_of (codes "TEXT") met.1) × IsFlag (one_of (codes "explain") met.1) explain
@@ -376,13 +380,14 @@ Asks (Some met) (Dis image source) = (met.0 ≡ codes "dis") × (string_bytes im
 Asks (Some met) (Compile source map) = (met.0 ≡ codes "compile") × (string_bytes source ≡ word_of (codes "SOURCE") met.1) × IsFlag (one_of (codes "map") met.1) map
 Asks (Some met) (Show source) = (met.0 ≡ codes "show") × (string_bytes source ≡ word_of (codes "SOURCE") met.1)
 Asks (Some met) (Dot image kind text) = (met.0 ≡ codes "dot") × (string_bytes image ≡ word_of (codes "IMAGE") met.1) × AsksKind met.1 kind × AsksText met.1 true kind text
+Asks (Some met) Lsp = met.0 ≡ codes "lsp"
 
 -- it is one of the program's commands
 abbrev pub IsCommand : Option (Text × List Row) → Type 0
 IsCommand None = ⊥
 IsCommand (Some met) =
     (met.0 ≡ codes "check") ⊎ (met.0 ≡ codes "run") ⊎ (met.0 ≡ codes "explore") ⊎ (met.0 ≡ codes "debug") ⊎ (met.0 ≡ codes "asm") ⊎ (met.0 ≡ codes "dis") ⊎ (met.0 ≡ codes "dot")
-    ⊎ (met.0 ≡ codes "compile") ⊎ (met.0 ≡ codes "show")
+    ⊎ (met.0 ≡ codes "compile") ⊎ (met.0 ≡ codes "show") ⊎ (met.0 ≡ codes "lsp")
 
 -- it is a command that runs an image, with a word of no native or one word too many
 abbrev pub NamesNoNatives : Option (Text × List Row) → Type 0
@@ -395,7 +400,7 @@ abbrev pub HasNoUseForText : Option (Text × List Row) → Type 0
 HasNoUseForText None = ⊥
 HasNoUseForText (Some met) =
     ((met.0 ≡ codes "check") × (SaysTwoKinds met.1 ⊎ LacksUse (codes "explain" ∷ codes "lines" ∷ codes "prices" ∷ []) met.1 ⊎ NamesTwoTexts met.1 ⊎ LacksText (codes "lines") met.1 ⊎ AsksTwoReportings met.1 ⊎ WarnsOfSource met.1))
-    ⊎ ((met.0 ≡ codes "run") × (SaysTwoKinds met.1 ⊎ LacksUse (codes "explain" ∷ codes "names" ∷ []) met.1 ⊎ NamesTwoTexts met.1 ⊎ LacksText (codes "names") met.1))
+    ⊎ ((met.0 ≡ codes "run") × (SaysTwoKinds met.1 ⊎ LacksUse (codes "explain" ∷ codes "names" ∷ codes "warn" ∷ []) met.1 ⊎ NamesTwoTexts met.1 ⊎ LacksText (codes "names") met.1 ⊎ WarnsOfSource met.1))
     ⊎ (((met.0 ≡ codes "explore") ⊎ (met.0 ≡ codes "debug") ⊎ (met.0 ≡ codes "dot")) × (SaysTwoKinds met.1 ⊎ NamesTwoTexts met.1))
 
 -- why words ask nothing: `clap` does not take them, or they do not fit together, or they do not name natives where they should, or memory is wanting
@@ -417,7 +422,7 @@ Says kind faults.Memory = Unit {0}
 -- what is known of the limit of runs
 abbrev pub KeepsLimit : Words → Type 0
 KeepsLimit (Check image kind prices explain lines all warn text) = Unit {0}
-KeepsLimit (Run run explain names text) = (1 ≤ run.limit) × (run.limit ≤ 1000000000)
+KeepsLimit (Run run explain names warn text) = (1 ≤ run.limit) × (run.limit ≤ 1000000000)
 KeepsLimit (Explore run tries text) = (1 ≤ run.limit) × (run.limit ≤ 1000000000)
 KeepsLimit (Debug run prompt text) = (1 ≤ run.limit) × (run.limit ≤ 1000000000)
 KeepsLimit (Asm text explain) = Unit {0}
@@ -425,3 +430,4 @@ KeepsLimit (Dis image source) = Unit {0}
 KeepsLimit (Compile source map) = Unit {0}
 KeepsLimit (Show source) = Unit {0}
 KeepsLimit (Dot image kind text) = Unit {0}
+KeepsLimit Lsp = Unit {0}

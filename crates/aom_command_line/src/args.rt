@@ -144,11 +144,7 @@ pub fn warn_arg<'a>(alloc: Global) -> Arg<'a>
     ensures rule { rule_of result ≡ warn_rule }
     ensures own { result.global ≡ false }
 {
-    flag_arg(
-        alloc,
-        "warn",
-        "Also tells what nobody may have wanted of an image that is accepted",
-    )
+    flag_arg(alloc, "warn", "Also tells what nobody may have wanted")
 }
 
 pub fn names_arg<'a>(alloc: Global) -> Arg<'a>

@@ -1,7 +1,7 @@
 //! The form of the command line: its commands with their arguments.
 ghost use Rattle.std.specs.Prelude.{◌≡◌, IfOk, IsOkAnd};
 ghost use Rattle.clap.specs.Words.{AddsArg, AddsSubcommand, App, app_of, with_subcommand};
-ghost use Rattle.aom_command_line.specs.CommandLine.{HasForm, asm_form, check_form, compile_form, debug_form, dis_form, dot_form, explore_form, form, run_form, show_form, with_files, with_program};
+ghost use Rattle.aom_command_line.specs.CommandLine.{HasForm, asm_form, check_form, compile_form, debug_form, dis_form, dot_form, explore_form, form, lsp_form, run_form, show_form, with_files, with_program};
 
 use crate::args::{
     all_arg, asm_arg, deaths_arg, explain_arg, file_arg, from_arg, kills_arg, limit_arg, lines_arg,
@@ -53,18 +53,19 @@ fn with_uses<'a>(alloc: Global, command: Command<'a>) -> Result<Command<'a>, All
     with_made(command, debug_command(alloc))
 }
 
-/// Adds what makes an image of a text, texts of an image, and a text of a source.
+/// Adds what makes an image of a text, texts of an image, and a text of a source, and the server of editors.
 fn with_translations<'a>(
     alloc: Global,
     command: Result<Command<'a>, AllocError>,
 ) -> Result<Command<'a>, AllocError>
-    ensures { (to : App) → IfOk command.entry (λ c. app_of c ≡ to) → IfOk result (λ c. app_of c ≡ with_subcommand (with_subcommand (with_subcommand (with_subcommand (with_subcommand to asm_form.top) dis_form.top) dot_form.top) compile_form.top) show_form.top) }
+    ensures { (to : App) → IfOk command.entry (λ c. app_of c ≡ to) → IfOk result (λ c. app_of c ≡ with_subcommand (with_subcommand (with_subcommand (with_subcommand (with_subcommand (with_subcommand to asm_form.top) dis_form.top) dot_form.top) compile_form.top) show_form.top) lsp_form.top) }
 {
     let command = with_made(command, asm_command(alloc));
     let command = with_made(command, dis_command(alloc));
     let command = with_made(command, dot_command(alloc));
     let command = with_made(command, compile_command(alloc));
-    with_made(command, show_command(alloc))
+    let command = with_made(command, show_command(alloc));
+    with_made(command, lsp_command(alloc))
 }
 
 /// Adds a command, where both were made.
@@ -201,6 +202,15 @@ fn show_command<'a>(alloc: Global) -> Result<Command<'a>, AllocError>
         .arg(file_arg(alloc, "SOURCE", "The file of a source"))
 }
 
+fn lsp_command<'a>(alloc: Global) -> Result<Command<'a>, AllocError>
+    ensures { IfOk result (λ c. HasForm lsp_form c) }
+{
+    let command = Command::new(alloc, "lsp").about(
+        "Answers editors what they ask of sources, over standard input and output",
+    );
+    Ok(command)
+}
+
 fn dot_command<'a>(alloc: Global) -> Result<Command<'a>, AllocError>
     ensures { IfOk result (λ c. HasForm dot_form c) }
 {
@@ -218,6 +228,7 @@ fn run_command<'a>(alloc: Global) -> Result<Command<'a>, AllocError>
         .arg(limit_arg(alloc));
     let command = with_arg(command, explain_arg(alloc));
     let command = with_arg(command, names_arg(alloc));
+    let command = with_arg(command, warn_arg(alloc));
     let command = with_arg(command, text_arg(alloc));
     with_files(alloc, command)
 }

@@ -65,6 +65,8 @@ pub enum Words {
         explain: bool,
         /// Whether the transcript has the names of a text in place of the numbers of classes.
         names: bool,
+        /// Whether warnings of the script are asked for.
+        warn: bool,
         /// The text that the image is of, whose lines an explanation names.
         text: Option<String>,
     },
@@ -109,6 +111,8 @@ pub enum Words {
         /// The text that the image is of, whose names are told.
         text: Option<String>,
     },
+    /// An editor is to be answered.
+    Lsp,
 }
 
 /// Why a command line is refused.
@@ -236,6 +240,7 @@ fn command_words(alloc: Global, command: &str, own: &ArgMatches) -> Result<Words
         "dot" => dot_words(alloc, own),
         "compile" => compile_words(alloc, own),
         "show" => show_words(alloc, own),
+        "lsp" => Ok(Words::Lsp),
         _ => Err(WordsFault::Text(String::new(alloc))),
     }
 }
@@ -387,12 +392,15 @@ fn running_words(alloc: Global, own: &ArgMatches) -> Result<Words, WordsFault>
     let explain = is_set(own, "explain");
     let names = is_set(own, "names");
     let kind = file_kind_of(alloc, own)?;
+    let warn = is_set(own, "warn");
     fit_names(alloc, own, kind, names)?;
+    fit_warnings(alloc, own, kind, warn)?;
     Ok(Words::Run {
-        text: text_of(alloc, own, explain | names, kind)?,
+        text: text_of(alloc, own, explain | names | warn, kind)?,
         run: run_words(alloc, own, kind)?,
         explain,
         names,
+        warn,
     })
 }
 

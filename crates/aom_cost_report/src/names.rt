@@ -80,7 +80,7 @@ impl<'a> Names<'a> {
     }
 
     /// Writes the name of a class or, where it has none, words and its number.
-    pub(crate) fn write_class(
+    pub fn write_class(
         &self,
         out: &mut FigureWriter,
         words: &[u8],
@@ -92,7 +92,7 @@ impl<'a> Names<'a> {
     }
 
     /// Writes the name of a method or, where it has none, words and its number.
-    pub(crate) fn write_method(
+    pub fn write_method(
         &self,
         out: &mut FigureWriter,
         words: &[u8],

@@ -6,7 +6,7 @@ use Rattle.std.proofs.lemmas.Bool.Decides.{nat_tests}
 use Rattle.std.specs.Str.{bytes_eq}
 use Rattle.aom_debug_protocol.specs.Commands.{command_said, known, line_says, name_says, verb_says, words_say}
 use Rattle.aom_debug_protocol.specs.declared.command.Command.{Command}
-use Rattle.aom_debug_protocol.specs.declared.command.Command.TheVariants.{Step, Next, Finish, Turn, Go, Until, Break, Unbreak}
+use Rattle.aom_debug_protocol.specs.declared.command.Command.TheVariants.{Step, Next, Finish, Turn, Go, Until, Break, Unbreak, Watch}
 use Rattle.aom_debug_protocol.specs.Verbs.{verb_named}
 use Rattle.aom_debug_protocol.specs.declared.verb.Verb.{Verb}
 use Rattle.aom_debug_protocol.specs.declared.verb.Verb.TheVariants as v
@@ -14,7 +14,11 @@ use Rattle.aom_debug_protocol.specs.declared.fault.DebugFault.{DebugFault}
 use Rattle.aom_debug_protocol.specs.declared.fault.DebugFault.TheVariants.{BadCommand, Ended, NoSuch}
 use Rattle.aom_debug_protocol.specs.declared.fault.DebugFault.TheVariants as faults
 use Rattle.aom_debug_protocol.specs.declared.spot.CodeLocation.{CodeLocation}
-use Rattle.aom_debug_protocol.specs.Marks.{has_spot, is_set, with_spot}
+use Rattle.aom_debug_protocol.specs.Marks.{has_spot, is_set, replaced, with_breakpoint}
+use Rattle.aom_debug_protocol.specs.declared.breakpoints.Breakpoint.{Breakpoint}
+use Rattle.aom_debug_protocol.specs.declared.condition.Condition.{Condition}
+use Rattle.aom_debug_protocol.specs.declared.condition.Condition.TheVariants.{Always}
+use Rattle.aom_debug_protocol.specs.Conditions.{comparison_said, condition_said}
 use Rattle.aom_machine_state.specs.Progress.{progress_by}
 use Rattle.aom_machine_state.specs.declared.progress.Progress.TheVariants as progress
 use Rattle.aom_text.specs.Words.{words}
@@ -24,7 +28,7 @@ use Rattle.aom_transcript.specs.declared.line.Ending.{Ending}
 use Rattle.aom_debug_symbols.specs.NameLists.{NameLists, has_text, method_named}
 use Rattle.aom_debug_symbols.specs.Lines.{spot_in}
 use Rattle.aom_debug_symbols.specs.Commands.{command_by, is_mark, line_said, mark_at, mark_by, mark_first, mark_in, mark_line, mark_named, mark_numbered}
-use Rattle.aom_debug_symbols.specs.Commands.{mark_said, mark_there, mark_words, marked, numbered, or_named}
+use Rattle.aom_debug_symbols.specs.Commands.{mark_said, mark_there, mark_where, mark_words, marked, numbered, or_named}
 use Rattle.aom_debug.specs.Commands.{is_count, spot_named}
 use Rattle.aom_debug.specs.Debugging.{Answer, CountsNot, Declined, FindsNone, Goes, GoesNamed, Marks, MarksAt, Outgoing, UntilCommands, steps_of}
 use Rattle.aom_debug.specs.Executing.{ExecutesLine, Executes, Passes}
@@ -51,15 +55,15 @@ counts n so other some few holds = rw (counted n some few) holds
 
 -- ---- breakpoints
 
-clear_breakpoint : (known room : Bool) (more spots : List CodeLocation) → (known || room) ≡ false → cond known spots (cond room more spots) ≡ spots
-clear_breakpoint false false more spots is = refl
-clear_breakpoint _ _ more spots is = cc
+stays_so : (known room : Bool) (on more bs : List Breakpoint) → (known || room) ≡ false → cond known on (cond room more bs) ≡ bs
+stays_so false false on more bs is = refl
+stays_so _ _ on more bs is = cc
 
 -- where one cannot be set they stay
-pub set_not : (spot : CodeLocation) (spots : List CodeLocation) → is_set spot spots ≡ false → with_spot spot spots ≡ spots
-set_not spot spots is = clear_breakpoint (has_spot spot spots) (nat_lt (length spots) 16) (spots ++ spot ∷ []) spots is
+pub set_not : (b : Breakpoint) (bs : List Breakpoint) → is_set b.spot bs ≡ false → with_breakpoint b bs ≡ bs
+set_not b bs is = stays_so (has_spot b.spot bs) (nat_lt (length bs) 16) (replaced b bs) (bs ++ b ∷ []) bs is
 
-module _ {X : Type 0} {B : X → Type 0} (may : CodeLocation → List CodeLocation → Bool) (marked : CodeLocation → List CodeLocation → List CodeLocation) (spot : CodeLocation)
+module _ {X : Type 0} {B : X → Type 0} (may : CodeLocation → List Breakpoint → Bool) (marked : CodeLocation → List Breakpoint → List Breakpoint) (spot : CodeLocation)
     (old new : Debugger X B) (out : Outgoing) where
   pub marked_runner : (answer : Answer) → MarksAt may marked spot old new out answer → new.runner ≡ old.runner
   marked_runner (Ok done) marks = ap (λ (d : Debugger X B). d.runner) marks.1
@@ -115,8 +119,9 @@ module _ {X : Type 0} {B : X → Type 0} where
       executes_failed Turn = (inl has_write_failed, declined)
       executes_failed Go = (inl has_write_failed, declined)
       executes_failed (Until method place) = named_either (spot_named d.runner.machine.core.image method place)
-      executes_failed (Break method place) = (has_write_failed, declined)
+      executes_failed (Break method place condition) = (has_write_failed, declined)
       executes_failed (Unbreak method place) = (has_write_failed, declined)
+      executes_failed (Watch v) = (inl has_write_failed, declined)
       executes_failed _ = (has_write_failed, declined)
 
       pub executes_line_failed : (said : Result (Option Command) DebugFault) → ExecutesLine said d d still (Err Ended)
@@ -126,7 +131,7 @@ module _ {X : Type 0} {B : X → Type 0} where
 
     -- where the numbers name nothing
     module _ (method place : Number) where
-      pub marks_none : (may : CodeLocation → List CodeLocation → Bool) (marked : CodeLocation → List CodeLocation → List CodeLocation) (fault : DebugFault) →
+      pub marks_none : (may : CodeLocation → List Breakpoint → Bool) (marked : CodeLocation → List Breakpoint → List Breakpoint) (fault : DebugFault) →
           FindsNone (spot_named d.runner.machine.core.image method place ≡ None) d fault → Marks may marked method place d d still (Err fault)
       marks_none may marked NoSuch none = (none.0, inl none.1, declined)
       marks_none may marked Ended has_write_failed = (has_write_failed, declined)
@@ -173,39 +178,49 @@ mark_no_end : (o : Option Command) → marked o ≡ Err Ended → ⊥
 mark_no_end None e = cc
 mark_no_end (Some command) e = cc
 
-there_no_end : (verb : Verb) (spot : Option CodeLocation) → mark_there verb spot ≡ Err Ended → ⊥
-there_no_end verb None e = cc
-there_no_end verb (Some spot) e = mark_no_end (mark_at verb (numbered spot.method) (numbered spot.place)) e
+there_no_end : (verb : Verb) (condition : Condition) (spot : Option CodeLocation) → mark_there verb condition spot ≡ Err Ended → ⊥
+there_no_end verb condition None e = cc
+there_no_end verb condition (Some spot) e = mark_no_end (mark_at verb (numbered spot.method) (numbered spot.place) condition) e
 
-in_no_end : (ns : NameLists) (verb : Verb) (line : Option ℕ) → mark_in ns verb line ≡ Err Ended → ⊥
-in_no_end ns verb None e = cc
-in_no_end ns verb (Some line) e = there_no_end verb (spot_in ns.text line) e
+in_no_end : (ns : NameLists) (verb : Verb) (condition : Condition) (line : Option ℕ) → mark_in ns verb condition line ≡ Err Ended → ⊥
+in_no_end ns verb condition None e = cc
+in_no_end ns verb condition (Some line) e = there_no_end verb condition (spot_in ns.text line) e
 
-named_no_end : (ns : NameLists) (verb : Verb) (name : List ℕ) (method : Option ℕ) (number : Number) → mark_named ns verb name method number ≡ Err Ended → ⊥
-named_no_end ns verb name (Some method) number e = mark_no_end (mark_at verb (numbered method) number) e
-named_no_end ns verb name None number e = go (bytes_eq name (codes "line")) e
+named_no_end : (ns : NameLists) (verb : Verb) (condition : Condition) (name : List ℕ) (method : Option ℕ) (number : Number) →
+    mark_named ns verb condition name method number ≡ Err Ended → ⊥
+named_no_end ns verb condition name (Some method) number e = mark_no_end (mark_at verb (numbered method) number condition) e
+named_no_end ns verb condition name None number e = go (bytes_eq name (codes "line")) e
   where
-    go : (b : Bool) → cond b (mark_in ns verb (number_within 1 1048576 number)) (Err NoSuch) ≡ Err Ended → ⊥
-    go true x = in_no_end ns verb (number_within 1 1048576 number) x
+    go : (b : Bool) → cond b (mark_in ns verb condition (number_within 1 1048576 number)) (Err NoSuch) ≡ Err Ended → ⊥
+    go true x = in_no_end ns verb condition (number_within 1 1048576 number) x
     go false x = cc
 
-numbered_no_end : (ns : NameLists) (verb : Verb) (name : List ℕ) (number : Option Number) → mark_numbered ns verb name number ≡ Err Ended → ⊥
-numbered_no_end ns verb name None e = cc
-numbered_no_end ns verb name (Some number) e = named_no_end ns verb name (method_named ns name) number e
+numbered_no_end : (ns : NameLists) (verb : Verb) (name : List ℕ) (number : Option Number) (condition : Result Condition DebugFault) →
+    mark_numbered ns verb name number condition ≡ Err Ended → ⊥
+numbered_no_end ns verb name None condition e = cc
+numbered_no_end ns verb name (Some number) (Err fault) e = cc
+numbered_no_end ns verb name (Some number) (Ok condition) e = named_no_end ns verb condition name (method_named ns name) number e
 
-line_no_end : (ns : NameLists) (verb : Verb) (number : Option Number) → mark_line ns verb number ≡ Err Ended → ⊥
-line_no_end ns verb None e = cc
-line_no_end ns verb (Some number) e = in_no_end ns verb (number_within 1 1048576 number) e
+line_no_end : (ns : NameLists) (verb : Verb) (condition : Condition) (number : Option Number) → mark_line ns verb condition number ≡ Err Ended → ⊥
+line_no_end ns verb condition None e = cc
+line_no_end ns verb condition (Some number) e = in_no_end ns verb condition (number_within 1 1048576 number) e
 
-first_no_end : (ns : NameLists) (verb : Verb) (word : List ℕ) (method : Option ℕ) → mark_first ns verb word method ≡ Err Ended → ⊥
-first_no_end ns verb word (Some method) e = mark_no_end (mark_at verb (numbered method) (numbered 0)) e
-first_no_end ns verb word None e = line_no_end ns verb (line_said ns.file word (number_of word)) e
+first_no_end : (ns : NameLists) (verb : Verb) (condition : Condition) (word : List ℕ) (method : Option ℕ) → mark_first ns verb condition word method ≡ Err Ended → ⊥
+first_no_end ns verb condition word (Some method) e = mark_no_end (mark_at verb (numbered method) (numbered 0) condition) e
+first_no_end ns verb condition word None e = line_no_end ns verb condition (line_said ns.file word (number_of word)) e
+
+where_no_end : (ns : NameLists) (verb : Verb) (word : List ℕ) (condition : Option Condition) → mark_where ns verb word condition ≡ Err Ended → ⊥
+where_no_end ns verb word None e = cc
+where_no_end ns verb word (Some condition) e = first_no_end ns verb condition word (method_named ns word) e
 
 words_no_end : (ns : NameLists) (verb : Verb) (ws : List (List ℕ)) → mark_words ns verb ws ≡ Err Ended → ⊥
 words_no_end ns verb [] e = cc
-words_no_end ns verb (word ∷ []) e = first_no_end ns verb word (method_named ns word) e
-words_no_end ns verb (name ∷ number ∷ []) e = numbered_no_end ns verb name (number_of number) e
-words_no_end ns verb (name ∷ number ∷ w ∷ ws) e = cc
+words_no_end ns verb (word ∷ []) e = first_no_end ns verb Always word (method_named ns word) e
+words_no_end ns verb (word ∷ second ∷ others) e = go (bytes_eq second (codes "if")) e
+  where
+    go : (b : Bool) → cond b (mark_where ns verb word (comparison_said others)) (mark_numbered ns verb word (number_of second) (condition_said others)) ≡ Err Ended → ⊥
+    go true x = where_no_end ns verb word (comparison_said others) x
+    go false x = numbered_no_end ns verb word (number_of second) (condition_said others) x
 
 by_no_end : (ns : NameLists) (verb : Option Verb) (ws : List (List ℕ)) → mark_by ns verb ws ≡ Err Ended → ⊥
 by_no_end ns None ws e = cc

@@ -8,20 +8,25 @@ use Rattle.aom_run.specs.declared.machine.HostedMachine.{HostedMachine}
 use Rattle.aom_transcript.specs.Sinks.{after}
 use Rattle.aom_debug_protocol.specs.declared.command.Command.{Command}
 use Rattle.aom_debug_protocol.specs.declared.command.Command.TheVariants.{Step, Next, Finish, Turn, Go, Until, Break, Unbreak, Breaks, Clock, Frames}
-use Rattle.aom_debug_protocol.specs.declared.command.Command.TheVariants.{Help, Cells, Owners, Cleanup, Actives, History, Timers, Words, Queue}
+use Rattle.aom_debug_protocol.specs.declared.command.Command.TheVariants.{Help, Cells, Owners, Cleanup, Actives, History, Timers, Words, Queue, Print, Watch}
 use Rattle.aom_debug_protocol.specs.declared.fault.DebugFault.{DebugFault}
-use Rattle.aom_debug_protocol.specs.declared.fault.DebugFault.TheVariants.{Ended, NoSuch, WriteFault}
+use Rattle.aom_debug_protocol.specs.declared.fault.DebugFault.TheVariants.{BadCommand, Ended, NoSuch, NotThere, OutOfMemory, WriteFault}
 use Rattle.aom_debug.specs.RunGoals.{RunGoals, way_of}
-use Rattle.aom_debug_protocol.specs.Marks.{has_spot, is_set, with_spot, without_spot}
+use Rattle.aom_debug_protocol.specs.Marks.{has_spot, is_set, without_spot}
+use Rattle.aom_debug_protocol.specs.declared.breakpoints.Breakpoint.{Breakpoint}
 use Rattle.aom_debug_protocol.specs.declared.spot.CodeLocation.{CodeLocation}
-use Rattle.aom_debug.specs.Commands.{NamesNone, is_count, moved_text, spot_named}
+use Rattle.aom_debug.specs.Commands.{NamesNone, is_count, moved_text, spot_named, with_condition}
 use Rattle.aom_debug.specs.Runners.{outside_of}
 use Rattle.aom_debug.specs.Debugging.{Answer, CountsNot, Declined, Goes, GoesNamed, LacksQueue, LacksWords, Looks, LooksAt, Marks, NamesNot, Outgoing}
 use Rattle.aom_debug.specs.Debugging.{Sees, SeesQueue, SeesWords, Steps, UntilCommands, goes_of, has_ended, overs_of, places_of, runs_of, steps_of, turns_of}
 use Rattle.aom_debug_stepping.specs.declared.run_goals.RunGoal.{RunGoal}
 use Rattle.aom_debug_stepping.specs.declared.over.Awaited.TheVariants as scopes
 use Rattle.aom_debug_stepping.specs.declared.run_goals.RunGoal.TheVariants as ways
+use Rattle.aom_debug.specs.Commands.{LacksVariable}
 use Rattle.aom_debug.specs.Executing.{Executes}
+use Rattle.aom_debug.specs.Printing.{Prints, SeesVariable}
+use Rattle.aom_debug.specs.Watching.{Has, Watches, changes_of}
+use Rattle.aom_debug_protocol.specs.declared.variable.Variable.{Variable}
 use Rattle.aom_debug.specs.declared.debugger.Debugger.{Debugger}
 use Rattle.aom_debug.specs.declared.looking.Inspection.TheVariants as inspect
 use Rattle.aom_debug.specs.Observing.{standing}
@@ -59,7 +64,7 @@ module _ {X : Type 0} {B : X → Type 0} (old new : Debugger X B) (out : Outgoin
       let f = x.2 s stands in
       (f.0, s, shown_so (λ t. shows old s t) s f.0 x.1 f.1, f.2, stands_same x.1 s stands)
 
-  marks_done : (may : CodeLocation → List CodeLocation → Bool) (marked : CodeLocation → List CodeLocation → List CodeLocation) (method place : Number) →
+  marks_done : (may : CodeLocation → List Breakpoint → Bool) (marked : CodeLocation → List Breakpoint → List Breakpoint) (method place : Number) →
       Marks may marked method place old new out (Ok tt) → Done (λ a text b. MarksSo may marked old.runner.machine.core.image method place a text b)
   marks_done may marked method place x s stands =
       let can = x.2 in (
@@ -102,6 +107,19 @@ module _ {X : Type 0} {B : X → Type 0} (old new : Debugger X B) (out : Outgoin
       let f = goes_done (ways.Place y.0) y.2 s stands in
       (f.0, f.1, (y.0, y.1, f.2), f.3, f.4)
 
+  watch_done : (v : Variable) → Watches v old new out (Ok tt) → Done (λ a text b. Does old.runner.machine.core.image (outside_of old.runner) (Watch v) a text b)
+  watch_done v x s stands =
+      let goes = x.1 in
+      let moved = goes.1 in
+      let f = moved.goes s stands in
+      let w = f.2 in (
+        moved_text old.names old.runner.machine.core.image f.0 f.1,
+        f.1,
+        (w.0, w.1, w.2, w.3, (ended_at s stands ∙ goes.0.1, f.0, w.4, moved.spots, moved.names, refl)),
+        f.3,
+        f.4,
+      )
+
   pub is_done : (command : Command) → Executes command old new out (Ok tt) →
       Done (λ a text b. Does old.runner.machine.core.image (outside_of old.runner) command a text b)
   is_done (Step n) x = steps_done n x
@@ -110,7 +128,7 @@ module _ {X : Type 0} {B : X → Type 0} (old new : Debugger X B) (out : Outgoin
   is_done Turn x = goes_done ways.EndOfDispatch x
   is_done Go x = goes_done ways.Breakpoint x
   is_done (Until method place) x = until_done method place x
-  is_done (Break method place) x = marks_done is_set with_spot method place x
+  is_done (Break method place condition) x = marks_done is_set (with_condition condition) method place x
   is_done (Unbreak method place) x = marks_done has_spot without_spot method place x
   is_done Breaks x = looks_done (Sees inspect.Breaks) x
   is_done Clock x = looks_done (Sees inspect.Clock) x
@@ -124,6 +142,8 @@ module _ {X : Type 0} {B : X → Type 0} (old new : Debugger X B) (out : Outgoin
   is_done History x = looks_done (Sees inspect.History) x
   is_done (Words w) x = looks_done (SeesWords w) x
   is_done (Queue w) x = looks_done (SeesQueue w) x
+  is_done (Print v) x = looks_done (SeesVariable v) x
+  is_done (Watch v) x = watch_done v x
 
   well_goes : (leads : Debugger X B → RunGoals) → Goes leads old new out (Ok tt) → new.has_failed ≡ false
   well_goes leads x = let moved = x.1 in moved.well
@@ -138,7 +158,7 @@ module _ {X : Type 0} {B : X → Type 0} (old new : Debugger X B) (out : Outgoin
   still_well Turn x = well_goes turns_of x
   still_well Go x = well_goes runs_of x
   still_well (Until method place) x = let y = named method place (Ok tt) (λ z. z) x in well_goes (places_of y.0) y.2
-  still_well (Break method place) x = ap (λ (d : Debugger X B). d.has_failed) x.3 ∙ well
+  still_well (Break method place condition) x = ap (λ (d : Debugger X B). d.has_failed) x.3 ∙ well
   still_well (Unbreak method place) x = ap (λ (d : Debugger X B). d.has_failed) x.3 ∙ well
   still_well Breaks x = well_same x.1
   still_well Clock x = well_same x.1
@@ -152,6 +172,8 @@ module _ {X : Type 0} {B : X → Type 0} (old new : Debugger X B) (out : Outgoin
   still_well History x = well_same x.1
   still_well (Words w) x = well_same x.1
   still_well (Queue w) x = well_same x.1
+  still_well (Print v) x = well_same x.1
+  still_well (Watch v) x = well_goes (changes_of v) x.1
 
   -- ---- what is refused
 
@@ -198,10 +220,10 @@ module _ {X : Type 0} {B : X → Type 0} (old new : Debugger X B) (out : Outgoin
       go None is y = names_refused method place is fault y
 
   -- a place that may not be marked so
-  abbrev NoMark : (CodeLocation → List CodeLocation → Bool) → Number → Number → DebugFault → Type 0
+  abbrev NoMark : (CodeLocation → List Breakpoint → Bool) → Number → Number → DebugFault → Type 0
   NoMark may method place fault = (fault ≡ NoSuch) × Declined old new out × NamesNone may old.runner.machine.core.image method place old.breakpoints
 
-  marks_refused : (may : CodeLocation → List CodeLocation → Bool) (marked : CodeLocation → List CodeLocation → List CodeLocation) (method place : Number) (fault : DebugFault) →
+  marks_refused : (may : CodeLocation → List Breakpoint → Bool) (marked : CodeLocation → List Breakpoint → List Breakpoint) (method place : Number) (fault : DebugFault) →
       fault ≢ WriteFault → Marks may marked method place old new out (Err fault) → NoMark may method place fault
   marks_refused may marked method place NoSuch other x = (refl, x.2, x.1)
   marks_refused may marked method place Ended other x = absurd (not_both old.has_failed x.0 well)
@@ -216,6 +238,28 @@ module _ {X : Type 0} {B : X → Type 0} (old new : Debugger X B) (out : Outgoin
   lacks_refused shows lacks WriteFault other x = absurd (other refl)
   lacks_refused shows lacks _ other x = absurd x
 
+  -- a variable that is not there
+  print_refused : (v : Variable) (fault : DebugFault) → fault ≢ WriteFault → Prints v old new out (Err fault) →
+      (fault ≡ NotThere) × Declined old new out × ((s : State) → RefinesWithNatives old.runner.machine s → LacksVariable old.runner.machine.core.image s v)
+  print_refused v NotThere other x = (refl, x.1, x.2)
+  print_refused v Ended other x = absurd (not_both old.has_failed x.0 well)
+  print_refused v WriteFault other x = absurd (other refl)
+  print_refused v _ other x = absurd x
+
+  -- or that is watched
+  watch_refused : (v : Variable) (fault : DebugFault) → fault ≢ WriteFault → Watches v old new out (Err fault) → Refused (Watch v) fault
+  watch_refused v NotThere other x = (x.1, x.2)
+  watch_refused v Ended other x = (x.1, λ s stands. go x.0 s stands)
+    where
+      go : (old.has_failed ≡ true) ⊎ ((has_ended old ≡ true) × Has v old) → (s : State) → RefinesWithNatives old.runner.machine s →
+          Refuses old.runner.machine.core.image (Watch v) (standing old s) Ended
+      go (inl failed) s stands = absurd (not_both old.has_failed failed well)
+      go (inr y) s stands = (y.1 s stands, ended_at s stands ∙ y.0)
+  watch_refused v WriteFault other x = absurd (other refl)
+  watch_refused v BadCommand other x = absurd x.1
+  watch_refused v NoSuch other x = absurd x.1
+  watch_refused v OutOfMemory other x = absurd x.1
+
   pub is_refused : (command : Command) (fault : DebugFault) → fault ≢ WriteFault → Executes command old new out (Err fault) → Refused command fault
   is_refused (Step n) fault other x = steps_refused n fault other x
   is_refused Next fault other x = let r = goes_refused (overs_of scopes.Step) fault other x in subst (λ f. Refused Next f) (sym r.0) (r.1, r.2)
@@ -223,8 +267,8 @@ module _ {X : Type 0} {B : X → Type 0} (old new : Debugger X B) (out : Outgoin
   is_refused Turn fault other x = let r = goes_refused turns_of fault other x in subst (λ f. Refused Turn f) (sym r.0) (r.1, r.2)
   is_refused Go fault other x = let r = goes_refused runs_of fault other x in subst (λ f. Refused Go f) (sym r.0) (r.1, r.2)
   is_refused (Until method place) fault other x = until_refused method place fault other x
-  is_refused (Break method place) fault other x = let r = marks_refused is_set with_spot method place fault other x in
-      subst (λ f. Refused (Break method place) f) (sym r.0) (r.1, (λ s stands. r.2))
+  is_refused (Break method place condition) fault other x = let r = marks_refused is_set (with_condition condition) method place fault other x in
+      subst (λ f. Refused (Break method place condition) f) (sym r.0) (r.1, (λ s stands. r.2))
   is_refused (Unbreak method place) fault other x =
       let r = marks_refused has_spot without_spot method place fault other x in subst (λ f. Refused (Unbreak method place) f) (sym r.0) (r.1, (λ s stands. r.2))
   is_refused Breaks fault other x = absurd (looks_refused (Sees inspect.Breaks) fault other x)
@@ -239,6 +283,8 @@ module _ {X : Type 0} {B : X → Type 0} (old new : Debugger X B) (out : Outgoin
   is_refused History fault other x = absurd (looks_refused (Sees inspect.History) fault other x)
   is_refused (Words w) fault other x = let r = lacks_refused (SeesWords w) (LacksWords w) fault other x in subst (λ f. Refused (Words w) f) (sym r.0) (r.1, r.2)
   is_refused (Queue w) fault other x = let r = lacks_refused (SeesQueue w) (LacksQueue w) fault other x in subst (λ f. Refused (Queue w) f) (sym r.0) (r.1, r.2)
+  is_refused (Print v) fault other x = let r = print_refused v fault other x in subst (λ f. Refused (Print v) f) (sym r.0) (r.1, r.2)
+  is_refused (Watch v) fault other x = watch_refused v fault other x
 
   -- ---- what is cut
 
@@ -246,14 +292,14 @@ module _ {X : Type 0} {B : X → Type 0} (old new : Debugger X B) (out : Outgoin
   CutOff command = (out.failed ≡ true) × ((s : State) → RefinesWithNatives old.runner.machine s → (text : List ℕ) × Begins old.runner.machine.core.image
       (outside_of old.runner) (Ok (Some command)) (standing old s) text × ((sent : ℕ) × (out.now ≡ after out.before (take sent text))))
 
-  goes_cut : (command : Command) (leads : Debugger X B → RunGoals) → ((s : State) → is_ended (standing old s) ≡ false →
+  goes_cut : (command : Command) (leads : Debugger X B → RunGoals) → ((s : State) → RefinesWithNatives old.runner.machine s → is_ended (standing old s) ≡ false →
       MovesOn old.runner.machine.core.image (Ok (Some command)) (standing old s)) → Goes leads old new out (Err WriteFault) → CutOff command
   goes_cut command leads on x =
       let cut = x.1 in (
         cut.fails,
         (λ s stands.
             let f = cut.goes s stands in
-            (moved_text old.names old.runner.machine.core.image f.0 f.1, inr (on s (ended_at s stands ∙ x.0.1), f.0, f.1, f.2, refl), f.3)),
+            (moved_text old.names old.runner.machine.core.image f.0 f.1, inr (on s stands (ended_at s stands ∙ x.0.1), f.0, f.1, f.2, refl), f.3)),
       )
 
   looks_cut : (command : Command) (shows : Debugger X B → State → List ℕ → Type 0) →
@@ -266,7 +312,7 @@ module _ {X : Type 0} {B : X → Type 0} (old new : Debugger X B) (out : Outgoin
         (f.0, inl (standing old s, inl (does s f.0 f.1)), f.2)),
   )
 
-  marks_cut : (command : Command) (may : CodeLocation → List CodeLocation → Bool) (marked : CodeLocation → List CodeLocation → List CodeLocation) (method place : Number)
+  marks_cut : (command : Command) (may : CodeLocation → List Breakpoint → Bool) (marked : CodeLocation → List Breakpoint → List Breakpoint) (method place : Number)
       → ((a : SessionState) (text : List ℕ) (b : SessionState) → MarksSo may marked old.runner.machine.core.image method place a text b → Does
       old.runner.machine.core.image (outside_of old.runner) command a text b) → Marks may marked method place old new out (Err WriteFault) → CutOff command
   marks_cut command may marked method place does x =
@@ -274,14 +320,14 @@ module _ {X : Type 0} {B : X → Type 0} (old new : Debugger X B) (out : Outgoin
       (x.4, (λ s stands. (_, inl (_, inl (does (standing old s) _ _ (x.1, can.names, can.room, refl, refl))), (x.5, x.6))))
 
   pub is_cut : (command : Command) → Executes command old new out (Err WriteFault) → CutOff command
-  is_cut (Step n) x = let y = counted n (Err WriteFault) (λ z. z) x in goes_cut (Step n) (steps_of n) (λ s ended. (y.0, ended)) y.1
-  is_cut Next x = goes_cut Next (overs_of scopes.Step) (λ s ended. ended) x
-  is_cut Finish x = goes_cut Finish (overs_of scopes.Method) (λ s ended. ended) x
-  is_cut Turn x = goes_cut Turn turns_of (λ s ended. ended) x
-  is_cut Go x = goes_cut Go runs_of (λ s ended. ended) x
+  is_cut (Step n) x = let y = counted n (Err WriteFault) (λ z. z) x in goes_cut (Step n) (steps_of n) (λ s stands ended. (y.0, ended)) y.1
+  is_cut Next x = goes_cut Next (overs_of scopes.Step) (λ s stands ended. ended) x
+  is_cut Finish x = goes_cut Finish (overs_of scopes.Method) (λ s stands ended. ended) x
+  is_cut Turn x = goes_cut Turn turns_of (λ s stands ended. ended) x
+  is_cut Go x = goes_cut Go runs_of (λ s stands ended. ended) x
   is_cut (Until method place) x = let y = named method place (Err WriteFault) (λ z. z) x in
-      goes_cut (Until method place) (places_of y.0) (λ s ended. (ap is_some y.1, ended)) y.2
-  is_cut (Break method place) x = marks_cut (Break method place) is_set with_spot method place (λ a text b y. y) x
+      goes_cut (Until method place) (places_of y.0) (λ s stands ended. (ap is_some y.1, ended)) y.2
+  is_cut (Break method place condition) x = marks_cut (Break method place condition) is_set (with_condition condition) method place (λ a text b y. y) x
   is_cut (Unbreak method place) x = marks_cut (Unbreak method place) has_spot without_spot method place (λ a text b y. y) x
   is_cut Breaks x = looks_cut Breaks (Sees inspect.Breaks) (λ s text y. (refl, y)) x
   is_cut Clock x = looks_cut Clock (Sees inspect.Clock) (λ s text y. (refl, y)) x
@@ -295,3 +341,5 @@ module _ {X : Type 0} {B : X → Type 0} (old new : Debugger X B) (out : Outgoin
   is_cut History x = looks_cut History (Sees inspect.History) (λ s text y. (refl, y)) x
   is_cut (Words w) x = looks_cut (Words w) (SeesWords w) (λ s text y. (refl, y)) x
   is_cut (Queue w) x = looks_cut (Queue w) (SeesQueue w) (λ s text y. (refl, y)) x
+  is_cut (Print v) x = looks_cut (Print v) (SeesVariable v) (λ s text y. (refl, y)) x
+  is_cut (Watch v) x = let has = x.0 in goes_cut (Watch v) (changes_of v) (λ s stands ended. (has s stands, ended)) x.1

@@ -1,5 +1,5 @@
 -- What commands do to a state of the checked machine, and what they tell.
-use Rattle.std.specs.Prelude.{◌≡◌, ◌⊎◌, ℕ, Bool, false, ◌&&◌, nat_le, nat_lt, if◌then◌else◌, List, [], ◌++◌, length, slice_get, Option, Some, None}
+use Rattle.std.specs.Prelude.{◌≡◌, ◌⊎◌, ℕ, Bool, false, ◌&&◌, nat_le, nat_lt, if◌then◌else◌, List, [], ◌++◌, length, slice_get, Option, Some, None, IsSome}
 use Rattle.aom_text.specs.Numbers.{number_within}
 use Rattle.aom_text.specs.declared.number.Number.{Number}
 use Rattle.aom_image.specs.Image.{Image}
@@ -9,23 +9,28 @@ use Rattle.aom_semantics.specs.State.{State}
 use Rattle.aom_transcript.specs.declared.line.Line.{Line}
 use Rattle.aom_transcript.specs.declared.line.Ending.{Ending}
 use Rattle.aom_transcript.specs.Text.{end_text, ended, text_of}
-use Rattle.aom_debug_protocol.specs.Marks.{has_spot, is_set}
+use Rattle.aom_debug_protocol.specs.Marks.{has_spot, is_set, with_breakpoint}
+use Rattle.aom_debug_protocol.specs.declared.condition.Condition.{Condition}
 use Rattle.aom_debug_protocol.specs.Help.{help_by}
 use Rattle.aom_debug_protocol.specs.declared.verb.Verb.{Verb}
 use Rattle.aom_debug_protocol.specs.declared.spot.CodeLocation.{CodeLocation}
+use Rattle.aom_debug_protocol.specs.declared.breakpoints.Breakpoint.{Breakpoint}
 use Rattle.aom_debug_symbols.specs.NameLists.{NameLists}
 use Rattle.aom_debug_symbols.specs.Answers.{answer_by}
 use Rattle.aom_debug_protocol.specs.declared.answer.Answer.{Answer}
 use Rattle.aom_debug_stepping.specs.Next.{next_of}
 use Rattle.aom_typing_rules.specs.Typing.{Typing}
 use Rattle.aom_static_bounds.specs.Strongest.{IsStrongest}
-use Rattle.aom_debug_views.specs.Frames.{frames_answers}
-use Rattle.aom_debug_views.specs.Actives.{InOrderOfChoice, active_answers}
-use Rattle.aom_debug_views.specs.Timers.{InOrderOfTime, timer_answers}
+use Rattle.aom_debug_views.specs.Frames.{frames_text}
+use Rattle.aom_debug_views.specs.Actives.{InOrderOfChoice, actives_placed}
+use Rattle.aom_debug_views.specs.Timers.{InOrderOfTime, timers_placed}
 use Rattle.aom_debug_views.specs.Owners.{owners, owners_text}
 use Rattle.aom_debug_views.specs.CellViews.{breaks_answers, cells_answers, cleanup_answers, clock_text, recent_answers}
 use Rattle.aom_debug_views.specs.Reporting.{answers_by, answers_text}
+use Rattle.aom_debug_views.specs.Seeking.{placed_by}
 use Rattle.aom_debug_paths.specs.Paths.{queue_answers, words_answers}
+use Rattle.aom_debug_paths.specs.Variables.{variable_answer}
+use Rattle.aom_debug_protocol.specs.declared.variable.Variable.{Variable}
 use Rattle.aom_debug_protocol.specs.Ways.{Way}
 
 -- ---- where a run stands
@@ -63,22 +68,26 @@ abbrev pub spot_named : Image → Number → Number → Option CodeLocation
 spot_named p method place = spot_by p (number_within 0 65535 method) (number_within 0 65535 place)
 
 -- they name none, or one that may not be marked so
-abbrev pub NamesNone : (CodeLocation → List CodeLocation → Bool) → Image → Number → Number → List CodeLocation → Type 0
-NamesNone may p method place spots = (spot_named p method place ≡ None) ⊎ ((spot : CodeLocation) × (spot_named p method place ≡ Some spot) × (may spot spots ≡ false))
+abbrev pub NamesNone : (CodeLocation → List Breakpoint → Bool) → Image → Number → Number → List Breakpoint → Type 0
+NamesNone may p method place bs = (spot_named p method place ≡ None) ⊎ ((spot : CodeLocation) × (spot_named p method place ≡ Some spot) × (may spot bs ≡ false))
+
+-- the breakpoints once one is set there, under that condition
+abbrev pub with_condition : Condition → CodeLocation → List Breakpoint → List Breakpoint
+with_condition condition spot = with_breakpoint (record { spot = spot; condition = condition })
 
 -- they name none, or there are sixteen others
-abbrev pub NamesNoRoom : Image → Number → Number → List CodeLocation → Type 0
+abbrev pub NamesNoRoom : Image → Number → Number → List Breakpoint → Type 0
 NamesNoRoom = NamesNone is_set
 
 -- they name none, or it has no breakpoint
-abbrev pub NamesNoMark : Image → Number → Number → List CodeLocation → Type 0
+abbrev pub NamesNoMark : Image → Number → Number → List Breakpoint → Type 0
 NamesNoMark = NamesNone has_spot
 
 -- ---- looks
 
 -- what is enlisted in the order of choice, each on its line
 abbrev pub ShowsActives : NameLists → Image → State → List ℕ → Type 0
-ShowsActives ns p s text = (names : List ℕ) × InOrderOfChoice s.cells names × (text ≡ answers_by ns (active_answers p s.cells names))
+ShowsActives ns p s text = (names : List ℕ) × InOrderOfChoice s.cells names × (text ≡ placed_by ns (actives_placed ns p s names))
 
 abbrev pub ShowsCells : NameLists → Image → State → List ℕ → Type 0
 ShowsCells ns p s text = text ≡ answers_by ns (cells_answers p s)
@@ -94,16 +103,16 @@ ShowsOwners ns s text = text ≡ owners_text ns (owners s)
 abbrev pub ShowsRecent : NameLists → List CodeLocation → List ℕ → Type 0
 ShowsRecent ns spots text = text ≡ answers_by ns (recent_answers spots)
 
--- the breakpoints, in the order in which they were set
-abbrev pub ShowsBreaks : NameLists → List CodeLocation → List ℕ → Type 0
-ShowsBreaks ns spots text = text ≡ answers_by ns (breaks_answers spots)
+-- the breakpoints, in the order in which their places were set
+abbrev pub ShowsBreaks : NameLists → List Breakpoint → List ℕ → Type 0
+ShowsBreaks ns bs text = text ≡ answers_by ns (breaks_answers bs)
 
 abbrev pub ShowsClock : State → List ℕ → Type 0
 ShowsClock s text = text ≡ clock_text s
 
 -- the timers that run, each on its line, the one that is due first before all others
 abbrev pub ShowsTimers : NameLists → State → List ℕ → Type 0
-ShowsTimers ns s text = (names : List ℕ) × InOrderOfTime s.cells names × (text ≡ answers_by ns (timer_answers s.cells names))
+ShowsTimers ns s text = (names : List ℕ) × InOrderOfTime s.cells names × (text ≡ placed_by ns (timers_placed ns s names))
 
 -- the words of the object that is owned at a path
 abbrev pub ShowsWords : Image → State → Way → List ℕ → Type 0
@@ -113,9 +122,21 @@ ShowsWords p s w text = (xs : List Answer) × (words_answers p s w ≡ Some xs) 
 abbrev pub ShowsQueue : State → Way → List ℕ → Type 0
 ShowsQueue s w text = (xs : List Answer) × (queue_answers s w ≡ Some xs) × (text ≡ answers_text xs)
 
+-- what a variable has, by the strongest typing
+abbrev pub ShowsVariable : NameLists → Image → State → Variable → List ℕ → Type 0
+ShowsVariable ns p s v text = (t : Typing) × IsStrongest p t × (x : Answer) × (variable_answer t p s v ≡ Some x) × (text ≡ ended (answer_by ns x))
+
+-- or that it is not there
+abbrev pub LacksVariable : Image → State → Variable → Type 0
+LacksVariable p s v = (t : Typing) × IsStrongest p t × (variable_answer t p s v ≡ None)
+
+-- it is there
+abbrev pub HasVariable : Image → State → Variable → Type 0
+HasVariable p s v = (t : Typing) × IsStrongest p t × IsSome (variable_answer t p s v)
+
 -- the methods at hand, the outermost first, by the strongest typing
 abbrev pub ShowsFrames : NameLists → Image → State → List ℕ → Type 0
-ShowsFrames ns p s text = (t : Typing) × IsStrongest p t × (text ≡ answers_by ns (frames_answers t s))
+ShowsFrames ns p s text = (t : Typing) × IsStrongest p t × (text ≡ frames_text ns t s)
 
 -- all commands, or one
 abbrev pub ShowsHelp : Option Verb → List ℕ → Type 0

@@ -10,7 +10,9 @@ use Rattle.aom_transcript.specs.Sinks.{after}
 use Rattle.aom_debug_stepping.specs.Runners.{outside_of}
 use Rattle.aom_debug_protocol.specs.declared.fault.DebugFault.{DebugFault}
 use Rattle.aom_debug_protocol.specs.declared.fault.DebugFault.TheVariants.{BadCommand, NoSuch, Ended, WriteFault}
-use Rattle.aom_debug_protocol.specs.Marks.{has_spot, is_set, with_spot, without_spot}
+use Rattle.aom_debug_protocol.specs.Marks.{has_spot, is_set, without_spot}
+use Rattle.aom_debug_protocol.specs.declared.breakpoints.Breakpoint.{Breakpoint}
+use Rattle.aom_debug_protocol.specs.declared.condition.Condition.{Condition}
 use Rattle.aom_debug_protocol.specs.declared.spot.CodeLocation.{CodeLocation}
 use Rattle.aom_debug_protocol.specs.declared.answer.Answer.TheVariants.{Done}
 use Rattle.aom_debug_protocol.specs.Answers.{answer_text}
@@ -23,7 +25,7 @@ use Rattle.aom_debug_paths.specs.Paths.{IsFound, owned_at, queue_answers, words_
 use Rattle.aom_debug_paths.specs.declared.following.Found.{Found}
 use Rattle.aom_machine_state.specs.Stands.{Refines as CoreStandsFor}
 use Rattle.aom_debug_protocol.specs.Ways.{Way}
-use Rattle.aom_debug.specs.Commands.{NamesNone, ShowsActives, ShowsBreaks, ShowsCells, ShowsCleanup, ShowsClock, ShowsFrames, ShowsHelp, ShowsOwners, ShowsQueue, ShowsRecent, ShowsTimers, ShowsWords, is_count, moved_text, place_text, spot_named}
+use Rattle.aom_debug.specs.Commands.{NamesNone, ShowsActives, ShowsBreaks, ShowsCells, ShowsCleanup, ShowsClock, ShowsFrames, ShowsHelp, ShowsOwners, ShowsQueue, ShowsRecent, ShowsTimers, ShowsWords, is_count, moved_text, place_text, spot_named, with_condition}
 use Rattle.aom_debug.specs.declared.debugger.Debugger.{Debugger}
 use Rattle.aom_debug.specs.declared.looking.Inspection.{Inspection}
 use Rattle.aom_debug.specs.declared.looking.Inspection.TheVariants.{Cells as At_cells, Owners as At_owners, Cleanup as At_cleanup, Actives as At_actives, History as At_recent, Breaks as At_breaks, Clock as At_clock, Frames as At_frames, Help as At_help, Timers as At_timers}
@@ -148,7 +150,7 @@ module _ {X : Type 0} {B : X → Type 0} where
   -- ---- a breakpoint
 
   -- where it may be set, or taken away, and what the breakpoints are then
-  module _ (may : CodeLocation → List CodeLocation → Bool) (marked : CodeLocation → List CodeLocation → List CodeLocation) where
+  module _ (may : CodeLocation → List Breakpoint → Bool) (marked : CodeLocation → List Breakpoint → List Breakpoint) where
     -- the numbers name a place, which may be marked so
     pub record CanMark (method place : Number) (d : Debugger X B) (spot : CodeLocation) : Type 0 where
       pub names : spot_named d.runner.machine.core.image method place ≡ Some spot
@@ -169,11 +171,11 @@ module _ {X : Type 0} {B : X → Type 0} where
     Marks method place old new out (Err fault) = ⊥
 
   -- one is set
-  abbrev pub SetsAt : CodeLocation → Debugger X B → Debugger X B → Outgoing → Answer → Type 0
-  SetsAt = MarksAt is_set with_spot
+  abbrev pub SetsAt : Condition → CodeLocation → Debugger X B → Debugger X B → Outgoing → Answer → Type 0
+  SetsAt condition = MarksAt is_set (with_condition condition)
 
-  abbrev pub Sets : Number → Number → Debugger X B → Debugger X B → Outgoing → Answer → Type 0
-  Sets = Marks is_set with_spot
+  abbrev pub Sets : Number → Number → Condition → Debugger X B → Debugger X B → Outgoing → Answer → Type 0
+  Sets method place condition = Marks is_set (with_condition condition) method place
 
   -- one is taken away
   abbrev pub UnsetsAt : CodeLocation → Debugger X B → Debugger X B → Outgoing → Answer → Type 0

@@ -1,10 +1,12 @@
 -- What each command asks of a debugger, and what a line of commands does.
 use Rattle.std.specs.Prelude.{◌≡◌, Option, Some, None, Result, Ok, Err, true, false}
 use Rattle.aom_debug_protocol.specs.declared.command.Command.{Command}
-use Rattle.aom_debug_protocol.specs.declared.command.Command.TheVariants.{Step, Next, Finish, Turn, Go, Until, Break, Unbreak, Breaks, Clock, Frames, Help, Cells, Owners, Cleanup, Actives, History, Timers, Words, Queue}
+use Rattle.aom_debug_protocol.specs.declared.command.Command.TheVariants.{Step, Next, Finish, Turn, Go, Until, Break, Unbreak, Breaks, Clock, Frames, Help, Cells, Owners, Cleanup, Actives, History, Timers, Words, Queue, Print, Watch}
 use Rattle.aom_debug_protocol.specs.declared.fault.DebugFault.{DebugFault}
 use Rattle.aom_debug_protocol.specs.declared.fault.DebugFault.TheVariants.{Ended}
 use Rattle.aom_debug.specs.Debugging.{Answer, Declined, GoesOver, LacksQueue, LacksWords, Looks, LooksAt, Outgoing, Runs, Sees, SeesQueue, SeesWords, Sets, Steps, Turns, Unsets, UntilCommands}
+use Rattle.aom_debug.specs.Printing.{Prints}
+use Rattle.aom_debug.specs.Watching.{Watches}
 use Rattle.aom_debug.specs.declared.debugger.Debugger.{Debugger}
 use Rattle.aom_debug.specs.declared.looking.Inspection.TheVariants as inspect
 use Rattle.aom_debug_stepping.specs.declared.over.Awaited.TheVariants as scopes
@@ -18,7 +20,7 @@ module _ {X : Type 0} {B : X → Type 0} where
   Executes Turn = Turns
   Executes Go = Runs
   Executes (Until method place) = UntilCommands method place
-  Executes (Break method place) = Sets method place
+  Executes (Break method place condition) = Sets method place condition
   Executes (Unbreak method place) = Unsets method place
   Executes Breaks = Looks (Sees inspect.Breaks)
   Executes Clock = Looks (Sees inspect.Clock)
@@ -32,6 +34,8 @@ module _ {X : Type 0} {B : X → Type 0} where
   Executes History = Looks (Sees inspect.History)
   Executes (Words w) = LooksAt (SeesWords w) (LacksWords w)
   Executes (Queue w) = LooksAt (SeesQueue w) (LacksQueue w)
+  Executes (Print v) = Prints v
+  Executes (Watch v) = Watches v
 
   -- nothing is asked, or nothing that there is
   abbrev pub Passes : Answer → Debugger X B → Debugger X B → Outgoing → Answer → Type 0

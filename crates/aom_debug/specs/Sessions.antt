@@ -1,5 +1,5 @@
 -- What a debugging session tells: commands one after another, from a state of the checked machine on.
-use Rattle.std.specs.Prelude.{◌≡◌, ◌⊎◌, ◌==◌, ℕ, Bool, true, false, List, [], ◌∷◌, ◌++◌, Option, Some, None, is_some, Result, Ok, Err}
+use Rattle.std.specs.Prelude.{◌≡◌, ◌⊎◌, ◌==◌, ℕ, Bool, true, false, List, [], ◌∷◌, ◌++◌, length, Option, Some, None, is_some, Result, Ok, Err}
 use Rattle.aom_text.specs.declared.number.Number.{Number}
 use Rattle.std.specs.List.{slice_split}
 use Rattle.aom_image.specs.Image.{Image}
@@ -11,22 +11,29 @@ use Rattle.aom_debug_symbols.specs.NameLists.{NameLists}
 use Rattle.aom_debug_symbols.specs.Answers.{answer_by}
 use Rattle.aom_debug_symbols.specs.Commands.{command_by}
 use Rattle.aom_debug_protocol.specs.declared.command.Command.{Command}
-use Rattle.aom_debug_protocol.specs.declared.command.Command.TheVariants.{Step, Next, Finish, Turn, Go, Until, Break, Unbreak, Breaks, Clock, Frames, Help, Cells, Owners, Cleanup, Actives, History, Timers, Words, Queue}
+use Rattle.aom_debug_protocol.specs.declared.command.Command.TheVariants.{Step, Next, Finish, Turn, Go, Until, Break, Unbreak, Breaks, Clock, Frames, Help, Cells, Owners, Cleanup, Actives, History, Timers, Words, Queue, Print, Watch}
 use Rattle.aom_debug_protocol.specs.declared.fault.DebugFault.{DebugFault}
 use Rattle.aom_debug_protocol.specs.declared.fault.DebugFault.TheVariants as faults
-use Rattle.aom_debug_protocol.specs.Marks.{has_spot, is_set, with_spot, without_spot}
+use Rattle.aom_debug_protocol.specs.Marks.{has_spot, is_set, without_spot}
+use Rattle.aom_debug_protocol.specs.declared.breakpoints.Breakpoint.{Breakpoint}
+use Rattle.aom_debug_protocol.specs.declared.condition.Condition.{Condition}
 use Rattle.aom_debug_protocol.specs.declared.spot.CodeLocation.{CodeLocation}
+use Rattle.aom_debug_protocol.specs.declared.variable.Variable.{Variable}
+use Rattle.aom_debug_protocol.specs.declared.answer.Answer.{Answer}
 use Rattle.aom_debug_protocol.specs.declared.answer.Answer.TheVariants.{Done, Fault}
+use Rattle.aom_debug_paths.specs.Variables.{variable_answer}
+use Rattle.aom_static_bounds.specs.Strongest.{IsStrongest}
+use Rattle.aom_typing_rules.specs.Typing.{Typing}
 use Rattle.aom_debug_protocol.specs.Answers.{answer_text}
 use Rattle.aom_debug_paths.specs.Paths.{queue_answers, words_answers}
-use Rattle.aom_debug.specs.RunGoals.{RunGoals, GoesBy, GoesOver, GoesToBreakpoint, GoesToPlace, ToLimit, TurnsOver}
+use Rattle.aom_debug.specs.RunGoals.{RunGoals, GoesBy, GoesOver, GoesToBreakpoint, GoesToChange, GoesToPlace, ToLimit, TurnsOver}
 use Rattle.aom_debug_stepping.specs.declared.over.Awaited.TheVariants as scopes
-use Rattle.aom_debug.specs.Commands.{NamesNoMark, NamesNoRoom, ShowsActives, ShowsBreaks, ShowsCells, ShowsCleanup, ShowsClock, ShowsFrames, ShowsHelp, ShowsOwners, ShowsQueue, ShowsRecent, ShowsTimers, ShowsWords, is_count, moved_text, spot_named}
+use Rattle.aom_debug.specs.Commands.{HasVariable, LacksVariable, NamesNoMark, NamesNoRoom, ShowsActives, ShowsBreaks, ShowsCells, ShowsCleanup, ShowsClock, ShowsFrames, ShowsHelp, ShowsOwners, ShowsQueue, ShowsRecent, ShowsTimers, ShowsVariable, ShowsWords, is_count, moved_text, spot_named, with_condition}
 
 -- where a session stands: at a state, with these breakpoints, these were the latest instructions, and all is told by the names and the lines of a text, where there is one
 pub record SessionState : Type 0 where
   pub state : State
-  pub spots : List CodeLocation
+  pub spots : List Breakpoint
   pub recent : List CodeLocation
   pub names : NameLists
 
@@ -47,13 +54,18 @@ Goes p outside leads a text b = (has_ended a ≡ false) × (lines : List Line) �
 abbrev pub GoesUntil : Image → Environment → Number → Number → SessionState → List ℕ → SessionState → Type 0
 GoesUntil p outside method place a text b = (spot : CodeLocation) × (spot_named p method place ≡ Some spot) × Goes p outside (GoesToPlace p outside spot a.spots) a text b
 
+-- it goes on until a variable has something else than it has by the strongest typing, with so many tasks at hand
+abbrev pub Watches : Image → Environment → Variable → SessionState → List ℕ → SessionState → Type 0
+Watches p outside v a text b = (t : Typing) × IsStrongest p t × (x : Answer) × (variable_answer t p a.state v ≡ Some x)
+    × Goes p outside (GoesToChange p outside (record { variable = v; answer = x; depth = length a.state.tasks }) a.spots) a text b
+
 -- the breakpoints are others, where the place may be marked so
-abbrev pub Marks : (CodeLocation → List CodeLocation → Bool) → (CodeLocation → List CodeLocation → List CodeLocation) → Image → Number → Number → SessionState → List ℕ → SessionState → Type 0
+abbrev pub Marks : (CodeLocation → List Breakpoint → Bool) → (CodeLocation → List Breakpoint → List Breakpoint) → Image → Number → Number → SessionState → List ℕ → SessionState → Type 0
 Marks may marked p method place a text b = (spot : CodeLocation) × (spot_named p method place ≡ Some spot) × (may spot a.spots ≡ true) × (b ≡ record a { spots = marked spot a.spots }) × (text ≡ ended (answer_text Done))
 
 -- a breakpoint is set
-abbrev pub Sets : Image → Number → Number → SessionState → List ℕ → SessionState → Type 0
-Sets = Marks is_set with_spot
+abbrev pub Sets : Image → Number → Number → Condition → SessionState → List ℕ → SessionState → Type 0
+Sets p method place condition = Marks is_set (with_condition condition) p method place
 
 -- a breakpoint is taken away
 abbrev pub Unsets : Image → Number → Number → SessionState → List ℕ → SessionState → Type 0
@@ -67,7 +79,7 @@ Does p outside Finish a text b = Goes p outside (GoesOver p outside scopes.Metho
 Does p outside Turn a text b = Goes p outside (TurnsOver p outside) a text b
 Does p outside Go a text b = Goes p outside (GoesToBreakpoint p outside a.spots) a text b
 Does p outside (Until method place) a text b = GoesUntil p outside method place a text b
-Does p outside (Break method place) a text b = Sets p method place a text b
+Does p outside (Break method place condition) a text b = Sets p method place condition a text b
 Does p outside (Unbreak method place) a text b = Unsets p method place a text b
 Does p outside Breaks a text b = Shown (λ t. ShowsBreaks a.names a.spots t) a text b
 Does p outside Clock a text b = Shown (λ t. ShowsClock a.state t) a text b
@@ -81,6 +93,8 @@ Does p outside Timers a text b = Shown (λ t. ShowsTimers a.names a.state t) a t
 Does p outside History a text b = Shown (λ t. ShowsRecent a.names a.recent t) a text b
 Does p outside (Words w) a text b = Shown (λ t. ShowsWords p a.state w t) a text b
 Does p outside (Queue w) a text b = Shown (λ t. ShowsQueue a.state w t) a text b
+Does p outside (Print v) a text b = Shown (λ t. ShowsVariable a.names p a.state v t) a text b
+Does p outside (Watch v) a text b = Watches p outside v a text b
 
 -- a command that is refused, and why
 abbrev pub Refuses : Image → Command → SessionState → DebugFault → Type 0
@@ -92,10 +106,13 @@ Refuses p Turn a faults.Ended = has_ended a ≡ true
 Refuses p Go a faults.Ended = has_ended a ≡ true
 Refuses p (Until method place) a faults.NoSuch = spot_named p method place ≡ None
 Refuses p (Until method place) a faults.Ended = (is_some (spot_named p method place) ≡ true) × (has_ended a ≡ true)
-Refuses p (Break method place) a faults.NoSuch = NamesNoRoom p method place a.spots
+Refuses p (Break method place condition) a faults.NoSuch = NamesNoRoom p method place a.spots
 Refuses p (Unbreak method place) a faults.NoSuch = NamesNoMark p method place a.spots
 Refuses p (Words w) a faults.NoSuch = words_answers p a.state w ≡ None
 Refuses p (Queue w) a faults.NoSuch = queue_answers a.state w ≡ None
+Refuses p (Print v) a faults.NotThere = LacksVariable p a.state v
+Refuses p (Watch v) a faults.NotThere = LacksVariable p a.state v
+Refuses p (Watch v) a faults.Ended = HasVariable p a.state v × (has_ended a ≡ true)
 Refuses p command a fault = ⊥
 
 -- ---- what a line tells
@@ -126,6 +143,7 @@ MovesOn p (Ok (Some Finish)) a = has_ended a ≡ false
 MovesOn p (Ok (Some Turn)) a = has_ended a ≡ false
 MovesOn p (Ok (Some Go)) a = has_ended a ≡ false
 MovesOn p (Ok (Some (Until method place))) a = (is_some (spot_named p method place) ≡ true) × (has_ended a ≡ false)
+MovesOn p (Ok (Some (Watch v))) a = HasVariable p a.state v × (has_ended a ≡ false)
 MovesOn p said a = ⊥
 
 -- what the next line tells is cut: of moves it is a beginning of what would be told of a run

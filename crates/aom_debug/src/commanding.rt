@@ -45,7 +45,9 @@ impl<'a> Debugger<'a> {
             Command::Turn => self.turn(out),
             Command::Go => self.go(out),
             Command::Until(method, place) => self.until(method, place, out),
-            Command::Break(method, place) => self.break_at(method, place, out),
+            Command::Break(method, place, condition) => {
+                self.break_at(method, place, condition, out)
+            }
             Command::Unbreak(method, place) => self.unbreak_at(method, place, out),
             Command::Cells => self.cells(out),
             Command::Owners => self.owners(out),
@@ -59,6 +61,8 @@ impl<'a> Debugger<'a> {
             Command::Timers => self.timers(out),
             Command::Words(path) => self.words_at(path, out),
             Command::Queue(path) => self.queue_at(path, out),
+            Command::Print(variable) => self.print(variable, out),
+            Command::Watch(variable) => self.watch(variable, out),
         }
     }
 }

@@ -9,7 +9,9 @@ ghost use Rattle.aom_debug_stepping.specs.Runners.{IsReady, KeepsRunner};
 ghost use Rattle.aom_debug.specs.Debugging.{GivesUp, Goes, Runs, Sets, SetsAt, Shows, Steps, Turns, goes_of, has_ended};
 
 use crate::showing::report_place;
-use aom_debug_protocol::{Answer, Breakpoints, CodeLocation, DebugFault, History};
+use aom_debug_protocol::{
+    Answer, Breakpoint, Breakpoints, CodeLocation, Condition, DebugFault, History,
+};
 use aom_debug_stepping::{Progress, RunGoal, Runner, Sink, go};
 use aom_debug_symbols::SourceNames;
 use aom_debug_views::report;
@@ -188,28 +190,34 @@ impl<'a> Debugger<'a> {
         self.run_until(RunGoal::Breakpoint, out)
     }
 
-    /// Sets a breakpoint at the place that two numbers name. One that is set already counts once.
+    /// Sets a breakpoint at the place that two numbers name, with a condition. One that is set there already takes that on.
     pub fn break_at<W: Sink>(
         &mut self,
         method: Number,
         place: Number,
+        condition: Condition,
         out: &mut W,
     ) -> Result<(), DebugFault>
         requires agree { AllAgree (λ l. l.ids) (λ l. (⟦<dyn Native as Native>⟧ l.native.vtable).owed l.native.value) self.old.runner.machine.natives.slots.items }
         requires ready { IsReady self.old.runner }
         ensures agree { AllAgree (λ l. l.ids) (λ l. (⟦<dyn Native as Native>⟧ l.native.vtable).owed l.native.value) self.new.runner.machine.natives.slots.items }
         ensures keeps { KeepsRunner self.old.runner self.new.runner }
-        ensures answer { Sets method place self.old self.new (record { before = W.out out.old; now = W.out out.new; failed = W.failed out.new }) result }
+        ensures answer { Sets method place condition self.old self.new (record { before = W.out out.old; now = W.out out.new; failed = W.failed out.new }) result }
     {
         let spot = self.spot(method, place)?;
-        self.set(spot, out)
+        self.set(spot, condition, out)
     }
 
     /// Sets a breakpoint.
-    fn set<W: Sink>(&mut self, spot: CodeLocation, out: &mut W) -> Result<(), DebugFault>
-        ensures { SetsAt spot self.old self.new (record { before = W.out out.old; now = W.out out.new; failed = W.failed out.new }) result }
+    fn set<W: Sink>(
+        &mut self,
+        spot: CodeLocation,
+        condition: Condition,
+        out: &mut W,
+    ) -> Result<(), DebugFault>
+        ensures { SetsAt condition spot self.old self.new (record { before = W.out out.old; now = W.out out.new; failed = W.failed out.new }) result }
     {
-        if !self.breakpoints.set(spot) {
+        if !self.breakpoints.set(Breakpoint { spot, condition }) {
             return Err(DebugFault::NoSuch);
         }
         let reported = report(Answer::Done, out);

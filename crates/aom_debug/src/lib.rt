@@ -20,10 +20,12 @@ mod looking;
 mod looks;
 mod marking;
 mod onward;
+mod printing;
 mod reaching;
 mod session_loop;
 mod showing;
 mod unbreaking;
+mod watching;
 
 pub use aom_debug_stepping::{Awaited, Runner, Sink};
 pub use aom_debug_symbols::SourceNames;

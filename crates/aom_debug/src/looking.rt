@@ -5,12 +5,10 @@ ghost use Rattle.aom_debug_stepping.specs.Runners.{IsReady, KeepsRunner};
 ghost use Rattle.aom_debug.specs.Debugging.{Looks, Seen, SeenPart, Sees};
 
 use crate::Debugger;
-use crate::showing::{show_cells, show_frames, show_owners};
+use crate::showing::{show_actives, show_cells, show_frames, show_owners, show_timers};
 use aom_debug_protocol::{DebugFault, Verb, help_by};
 use aom_debug_stepping::Sink;
-use aom_debug_views::{
-    report_actives, report_breaks, report_cleanup, report_clock, report_recent, report_timers, send,
-};
+use aom_debug_views::{report_breaks, report_cleanup, report_clock, report_recent, send};
 use aom_natives::Native;
 
 /// What a debugger shows of a machine.
@@ -52,17 +50,13 @@ impl<'a> Debugger<'a> {
                 &self.names,
                 out,
             ),
-            Inspection::Actives => report_actives(
-                self.runner.machine.core.parts(),
-                &self.names,
-                out,
-            ),
+            Inspection::Actives => show_actives(&self.runner.machine, &self.names, out),
             Inspection::History => report_recent(&self.runner.recent, &self.names, out),
             Inspection::Breaks => report_breaks(&self.breakpoints, &self.names, out),
             Inspection::Clock => report_clock(self.runner.machine.core.parts(), out),
             Inspection::Frames => show_frames(&self.runner.machine, &self.names, out),
             Inspection::Help(verb) => send(help_by(verb), out),
-            Inspection::Timers => report_timers(self.runner.machine.core.parts(), &self.names, out),
+            Inspection::Timers => show_timers(&self.runner.machine, &self.names, out),
         }
     }
 

@@ -5,7 +5,9 @@ ghost use Rattle.aom_debug_stepping.specs.Calls.{Stands};
 ghost use Rattle.aom_machine_state.specs.Stands.{Stands as CoreStands};
 ghost use Rattle.aom_static_bounds.specs.Strongest.{IsStrongest};
 ghost use Rattle.aom_typing_rules.specs.Typing.{Typing};
-ghost use Rattle.aom_debug_views.specs.Frames.{frames_answers};
+ghost use Rattle.aom_debug_views.specs.Actives.{ReportsActives, ReportsActivesPart};
+ghost use Rattle.aom_debug_views.specs.Timers.{ReportsTimers, ReportsTimersPart};
+ghost use Rattle.aom_debug_views.specs.Frames.{frames_text};
 ghost use Rattle.aom_debug_views.specs.Owners.{owners, owners_text};
 ghost use Rattle.aom_debug_views.specs.CellViews.{cells_answers};
 ghost use Rattle.aom_debug_views.specs.Reporting.{Reports, ReportsPart, answers_by};
@@ -14,7 +16,9 @@ ghost use Rattle.aom_debug.specs.Commands.{end_by, place_text};
 use aom_debug_protocol::DebugFault;
 use aom_debug_stepping::{HostedMachine, Progress, Sink, next_of};
 use aom_debug_symbols::SourceNames;
-use aom_debug_views::{report_by, report_cells, report_frames, report_owners, send};
+use aom_debug_views::{
+    report_actives, report_by, report_cells, report_frames, report_owners, report_timers, send,
+};
 use aom_transcript::Page;
 
 /// The run's last line, where it is over.
@@ -57,6 +61,30 @@ pub fn show_owners<W: Sink>(
     report_owners(machine.core.parts(), machine.core.accepted(), names, out)
 }
 
+/// Writes the enlisted objects.
+pub fn show_actives<W: Sink>(
+    machine: &HostedMachine,
+    names: &SourceNames,
+    out: &mut W,
+) -> Result<(), DebugFault>
+    ensures ok { IfOk result (λ _. ReportsActives names.now machine.now.core (W.out out.old) (W.out out.new)) }
+    ensures err { IfErr result (λ fault. ReportsActivesPart names.now machine.now.core fault (W.failed out.new) (W.out out.old) (W.out out.new)) }
+{
+    report_actives(machine.core.parts(), machine.core.accepted(), names, out)
+}
+
+/// Writes the timers that run.
+pub fn show_timers<W: Sink>(
+    machine: &HostedMachine,
+    names: &SourceNames,
+    out: &mut W,
+) -> Result<(), DebugFault>
+    ensures ok { IfOk result (λ _. ReportsTimers names.now machine.now.core (W.out out.old) (W.out out.new)) }
+    ensures err { IfErr result (λ fault. ReportsTimersPart names.now machine.now.core fault (W.failed out.new) (W.out out.old) (W.out out.new)) }
+{
+    report_timers(machine.core.parts(), machine.core.accepted(), names, out)
+}
+
 /// Writes the methods at hand.
 pub fn show_frames<W: Sink>(
     machine: &HostedMachine,
@@ -64,8 +92,8 @@ pub fn show_frames<W: Sink>(
     out: &mut W,
 ) -> Result<(), DebugFault>
     ensures stands { CoreStands machine.now.core }
-    ensures ok { IfOk result (λ _. (t : Typing) → IsStrongest machine.now.core.image t → Reports machine.now.core (λ s. answers_by names.now (frames_answers t s)) (W.out out.old) (W.out out.new)) }
-    ensures err { IfErr result (λ fault. (t : Typing) → IsStrongest machine.now.core.image t → ReportsPart machine.now.core (λ s. answers_by names.now (frames_answers t s)) fault (W.failed out.new) (W.out out.old) (W.out out.new)) }
+    ensures ok { IfOk result (λ _. (t : Typing) → IsStrongest machine.now.core.image t → Reports machine.now.core (λ s. frames_text names.now t s) (W.out out.old) (W.out out.new)) }
+    ensures err { IfErr result (λ fault. (t : Typing) → IsStrongest machine.now.core.image t → ReportsPart machine.now.core (λ s. frames_text names.now t s) fault (W.failed out.new) (W.out out.old) (W.out out.new)) }
 {
     report_frames(machine.core.parts(), machine.core.accepted(), names, out)
 }

@@ -2,16 +2,9 @@
 use Rattle.std.proofs.Common.{◌≡◌, ◌∙◌, ◌≤◌, ℕ, zero, suc, Bool, true, false, cond, ◌==◌, ◌&&◌, Some, None, ap, arith, refl, sym}
 use Rattle.std.proofs.lemmas.Bool.{eqb-false, eqb-true}
 use Rattle.std.proofs.lemmas.Option.{none-some}
-use Rattle.aom_image.specs.Image.{Image}
 use Rattle.aom_link_conditions.specs.Roles.{or_else}
-use Rattle.aom_semantics.specs.State.{State}
-use Rattle.aom_machine_state.specs.Stands.{Refines}
-use Rattle.aom_machine_state.specs.declared.parts.Parts.{Parts}
 use Rattle.aom_debug_views.specs.CellViews.{counted}
-use Rattle.aom_debug_paths.proofs.DebugViewsLemmas.{as_many_items, as_many_tasks}
-use Rattle.aom_debug_paths.specs.declared.finding.Series.{Series}
-use Rattle.aom_debug_paths.specs.declared.finding.Series.TheVariants.{Entries, Frames, Goings}
-use Rattle.aom_debug_paths.specs.Paths.{at_count, length_of, numbered, places_in}
+use Rattle.aom_debug_paths.specs.Paths.{at_count, numbered}
 
 module _ (f : ℕ → Bool) (k : ℕ) where
   -- what is counted here tells whether it holds
@@ -39,9 +32,3 @@ module _ (f : ℕ → Bool) (k : ℕ) where
       go false other earlier =
           let apart = eqb-false (suc n) (suc m) other in
           ap (λ o. or_else o (at_count f k m)) (earlier (omega (arith, le, apart)))
-
--- the machine has as many places as each state that it stands for
-pub as_many : (a : Series) (p : Image) (m : Parts) (s : State) → Refines (record { image = p; parts = m }) s → places_in a m ≡ length_of a s
-as_many Frames p m s st = as_many_tasks p m s st
-as_many Entries p m s st = as_many_items p m s st
-as_many Goings p m s st = as_many_tasks p m s st

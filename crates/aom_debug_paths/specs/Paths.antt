@@ -1,5 +1,5 @@
 -- What is owned at a path of the map of owners, and what a debugger tells of it.
-use Rattle.std.specs.Prelude.{◌≡◌, ◌==◌, ◌&&◌, ℕ, zero, suc, Bool, cond, List, [], ◌∷◌, length, map, Option, Some, None, option_map}
+use Rattle.std.specs.Prelude.{◌≡◌, ◌==◌, ◌&&◌, ℕ, zero, suc, Bool, cond, List, [], ◌∷◌, map, Option, Some, None, option_map}
 use Rattle.std.specs.List.{fold}
 use Rattle.aom_image.specs.Image.{Image}
 use Rattle.aom_image.specs.declared.method.Thing.{Thing}
@@ -9,7 +9,6 @@ use Rattle.aom_roles.specs.Things.{words_of}
 use Rattle.aom_clients.specs.declared.entry.QueueEntry.{QueueEntry}
 use Rattle.aom_clients.specs.declared.entry.QueueEntry.TheVariants as entries
 use Rattle.aom_clients.specs.declared.entry.TakenEntry.{TakenEntry}
-use Rattle.aom_semantics.specs.Owned.{over}
 use Rattle.aom_semantics.specs.Places.{Asked, Cell, Close_of, Connect_of, Elsewhere, Entry, Field, Going, In_service, Message_of, Object, Place, Register, Root, Session, held, service_of, word_field}
 use Rattle.aom_semantics.specs.State.{State}
 use Rattle.aom_cells.specs.Heap.{Lives}
@@ -21,11 +20,12 @@ use Rattle.aom_debug_protocol.specs.declared.way.Branch.TheVariants.{Field as By
 use Rattle.aom_debug_protocol.specs.declared.way.Outer.{Outer}
 use Rattle.aom_debug_protocol.specs.declared.way.Outer.TheVariants.{Entry as In_entry, Going as In_going, Register as In_register, Root as At_root, Service as At_service}
 use Rattle.aom_debug_protocol.specs.Ways.{Way}
-use Rattle.aom_debug_views.specs.Owners.{is_entry, is_frame, is_going, source_in}
+use Rattle.aom_debug_views.specs.Owners.{source_in}
 use Rattle.aom_debug_views.specs.CellViews.{class_of, counted}
 use Rattle.aom_debug_views.specs.Reporting.{gathered}
-use Rattle.aom_debug_paths.specs.declared.finding.Series.{Series}
-use Rattle.aom_debug_paths.specs.declared.finding.Series.TheVariants as series
+use Rattle.aom_debug_views.specs.SeriesMaps.{is_such, length_of}
+use Rattle.aom_debug_views.specs.declared.series.Series.{Series}
+use Rattle.aom_debug_views.specs.declared.series.Series.TheVariants as series
 use Rattle.aom_debug_paths.specs.declared.following.Found.{Found}
 use Rattle.aom_debug_views.specs.declared.holding.Holding.{Holding}
 use Rattle.aom_debug_views.specs.declared.holding.Holding.TheVariants as holds
@@ -40,22 +40,6 @@ at_count f k n = cond (f n && (counted f n == k)) (Some n) None
 abbrev pub numbered : (ℕ → Bool) → ℕ → ℕ → Option ℕ
 numbered f k zero = None
 numbered f k (suc n) = or_else (numbered f k n) (at_count f k n)
-
--- whether one of a series stands at a place of the state
-abbrev pub is_such : Series → State → ℕ → Bool
-is_such series.Frames s = λ k. is_frame (over s.tasks k)
-is_such series.Entries s = λ k. is_entry (over s.items k)
-is_such series.Goings s = λ k. is_going (over s.tasks k)
-
-abbrev pub length_of : Series → State → ℕ
-length_of series.Frames s = length s.tasks
-length_of series.Entries s = length s.items
-length_of series.Goings s = length s.tasks
-
-abbrev pub places_in : Series → Parts → ℕ
-places_in series.Frames m = length m.stack.tasks
-places_in series.Entries m = length m.entries.items
-places_in series.Goings m = length m.stack.tasks
 
 -- of the one over so many others
 abbrev pub place_in : Series → State → ℕ → Option ℕ

@@ -1,14 +1,14 @@
 //! The places that are in no object, by their numbers from the bottom.
-ghost use Rattle.std.specs.Prelude.{◌≡◌, ◌==◌, ◌&&◌, ◌<◌, ◌≤◌, IfSome, cond, option_map};
+ghost use Rattle.std.specs.Prelude.{◌≡◌, ◌==◌, ◌&&◌, IfSome, option_map};
 ghost use Rattle.aom_image.specs.Image.{Image};
 ghost use Rattle.aom_machine_state.specs.Stands.{Refines};
 ghost use Rattle.aom_semantics.specs.Places.{Entry as At_entry, Going as Goes, Register as In_register_of};
 ghost use Rattle.aom_semantics.specs.State.{State};
 ghost use Rattle.aom_debug_views.specs.Holdings.{IsOwner, place_of};
-ghost use Rattle.aom_debug_paths.specs.Paths.{is_such, outer_place, place_in, places_in};
+ghost use Rattle.aom_debug_paths.specs.Paths.{outer_place, place_in};
 
 use aom_debug_protocol::Outer;
-use aom_debug_views::{Owner, entries_at, frames_at, goings_at};
+use aom_debug_views::{Owner, Series};
 use aom_instructions::Register;
 use aom_machine_state::Parts;
 
@@ -17,42 +17,6 @@ fn is_meant(here: usize, others: usize, number: u16) -> bool
     ensures { result ≡ (here == 1 && others == number) }
 {
     here == 1 && others == usize::from(number)
-}
-
-/// What is numbered from the bottom.
-#[derive(Clone, Copy)]
-enum Series {
-    /// The methods at hand.
-    Frames,
-    /// What stands in the cleanup stack, without its marks.
-    Entries,
-    /// The destructions at hand.
-    Goings,
-}
-
-impl Series {
-    /// How many places there are at which one may stand.
-    fn places(self, parts: &Parts) -> usize
-        ensures { result ≡ places_in self parts.now }
-    {
-        match self {
-            Series::Frames | Series::Goings => parts.stack.len(),
-            Series::Entries => parts.entries.len(),
-        }
-    }
-
-    /// How many stand at that place.
-    fn count_at(self, parts: &Parts, place: usize) -> usize
-        requires { place < places_in self parts.now }
-        ensures few { result ≤ 1 }
-        ensures value { (p : Image) (s : State) → Refines (record { image = p; parts = parts.now }) s → result ≡ cond (is_such self s place) 1 0 }
-    {
-        match self {
-            Series::Frames => frames_at(parts, place),
-            Series::Entries => entries_at(parts, place),
-            Series::Goings => goings_at(parts, place),
-        }
-    }
 }
 
 /// The place of the one over so many others.

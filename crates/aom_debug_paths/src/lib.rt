@@ -9,8 +9,10 @@
 mod finding;
 mod following;
 mod queue;
+mod variable;
 mod words;
 
 pub use following::{Found, object_at};
 pub use queue::report_queue;
+pub use variable::variable_at;
 pub use words::report_words;

@@ -19,7 +19,7 @@ use aom_machine_state::Parts;
 use aom_transcript::Sink;
 
 /// How many words an object of a class has.
-fn word_count(linked: &Linked, class: u16) -> u8
+pub(crate) fn word_count(linked: &Linked, class: u16) -> u8
     ensures value { result ≡ words_of linked.now class }
     ensures few { result ≤ 8 }
 {
@@ -30,7 +30,7 @@ fn word_count(linked: &Linked, class: u16) -> u8
 }
 
 /// A word of what lives in a cell, as it is told.
-fn word_answer(parts: &Parts, cell: CellId, word: u8) -> Option<Answer>
+pub(crate) fn word_answer(parts: &Parts, cell: CellId, word: u8) -> Option<Answer>
     requires lives { Lives parts.now.cells cell }
     requires within { word < 8 }
     ensures { (p : Image) (s : State) → Refines (record { image = p; parts = parts.now }) s → result ≡ Some (Word word (word_field s.cells cell word)) }

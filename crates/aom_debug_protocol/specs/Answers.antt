@@ -2,6 +2,7 @@
 use Rattle.std.specs.Prelude.{ℕ, ℤ, List, ◌++◌, codes, decimal}
 use Rattle.std.specs.Fmt.{signed_decimal}
 use Rattle.aom_debug_protocol.specs.Faults.{number_of}
+use Rattle.aom_debug_protocol.specs.Conditions.{condition_text}
 use Rattle.aom_debug_protocol.specs.declared.spot.CodeLocation.{CodeLocation}
 use Rattle.aom_debug_protocol.specs.declared.answer.Phase.{Phase}
 use Rattle.aom_debug_protocol.specs.declared.answer.Phase.TheVariants as phases
@@ -64,7 +65,7 @@ answer_text (Active class priority phase status) = active_text class priority ph
 answer_text (Server class priority queued) = server_text class priority queued
 answer_text (Clock time) = codes "clock " ++ decimal time
 answer_text (Timer class due) = numbers_text class due
-answer_text (Break spot) = codes "break " ++ spot_text spot
+answer_text (Break b) = codes "break " ++ spot_text b.spot ++ condition_text b.condition
 answer_text (Frame spot) = spot_text spot
 answer_text (Register i content) = register_text i content
 answer_text (Loop i rounds) = codes "loop " ++ numbers_text i rounds

@@ -4,8 +4,12 @@ use Rattle.aom_text.specs.Words.{words}
 use Rattle.aom_text.specs.Numbers.{number_of, number_within}
 use Rattle.aom_text.specs.declared.number.Number.{Number}
 use Rattle.aom_debug_protocol.specs.Ways.{Way, path_said}
+use Rattle.aom_debug_protocol.specs.Variables.{variable_said}
+use Rattle.aom_debug_protocol.specs.Conditions.{condition_said}
+use Rattle.aom_debug_protocol.specs.declared.condition.Condition.{Condition}
+use Rattle.aom_debug_protocol.specs.declared.variable.Variable.{Variable}
 use Rattle.aom_debug_protocol.specs.declared.command.Command.{Command}
-use Rattle.aom_debug_protocol.specs.declared.command.Command.TheVariants.{Step, Next, Finish, Turn, Go, Until, Break, Unbreak, Breaks, Clock, Frames, Help, Cells, Owners, Cleanup, Actives, History, Timers, Words, Queue}
+use Rattle.aom_debug_protocol.specs.declared.command.Command.TheVariants.{Step, Next, Finish, Turn, Go, Until, Break, Unbreak, Breaks, Clock, Frames, Help, Cells, Owners, Cleanup, Actives, History, Timers, Words, Queue, Print, Watch}
 use Rattle.aom_debug_protocol.specs.Verbs.{verb_named}
 use Rattle.aom_debug_protocol.specs.declared.verb.Verb.{Verb}
 use Rattle.aom_debug_protocol.specs.declared.verb.Verb.TheVariants as v
@@ -47,13 +51,13 @@ step_says [] = Some (Step 1)
 step_says (steps ∷ []) = steps_by (number_of steps)
 step_says _ = None
 
--- a method and a place, whether they are any or not
-abbrev pub breaks_at : Option Number → Option Number → Option Command
-breaks_at (Some method) (Some place) = Some (Break method place)
-breaks_at _ _ = None
+-- a method and a place, whether they are any or not, and a condition or none
+abbrev pub breaks_at : Option Number → Option Number → Result Condition DebugFault → Option Command
+breaks_at (Some method) (Some place) (Ok condition) = Some (Break method place condition)
+breaks_at _ _ _ = None
 
 abbrev pub break_says : List (List ℕ) → Option Command
-break_says (method ∷ place ∷ []) = breaks_at (number_of method) (number_of place)
+break_says (method ∷ place ∷ others) = breaks_at (number_of method) (number_of place) (condition_said others)
 break_says _ = None
 
 -- and so where a breakpoint is to go
@@ -84,6 +88,16 @@ abbrev pub queue_at : Option Way → Option Command
 queue_at None = None
 queue_at (Some w) = Some (Queue w)
 
+-- ---- a variable
+
+abbrev pub print_of : Option Variable → Option Command
+print_of None = None
+print_of (Some variable) = Some (Print variable)
+
+abbrev pub watch_of : Option Variable → Option Command
+watch_of None = None
+watch_of (Some variable) = Some (Watch variable)
+
 -- ---- help
 
 -- of a command, if it is one
@@ -106,6 +120,8 @@ words_say v.Unbreak others = unbreak_says others
 words_say v.Until others = until_says others
 words_say v.Words others = words_at (path_said others)
 words_say v.Queue others = queue_at (path_said others)
+words_say v.Print others = print_of (variable_said others)
+words_say v.Watch others = watch_of (variable_said others)
 words_say v.Help others = help_says others
 words_say verb others = alone verb others
 

@@ -1,6 +1,8 @@
 pub mod Answers
 pub mod Marks
+pub mod Conditions
 pub mod Ways
+pub mod Variables
 pub mod Verbs
 pub mod Commands
 pub mod Faults

@@ -2,7 +2,7 @@
 use Rattle.std.specs.Prelude.{ℕ, if◌then◌else◌, List, codes, Option, Some, None}
 use Rattle.std.specs.Str.{bytes_eq}
 use Rattle.aom_debug_protocol.specs.declared.verb.Verb.{Verb}
-use Rattle.aom_debug_protocol.specs.declared.verb.Verb.TheVariants.{Step, Next, Finish, Turn, Go, Until, Break, Unbreak, Breaks, Cells, Owners, Cleanup, Actives, Frames, Words, Queue, Recent, Clock, Timers, Help, Quit}
+use Rattle.aom_debug_protocol.specs.declared.verb.Verb.TheVariants.{Step, Next, Finish, Turn, Go, Until, Break, Unbreak, Breaks, Cells, Owners, Cleanup, Actives, Frames, Words, Queue, Print, Watch, Recent, Clock, Timers, Help, Quit}
 
 -- those that look
 abbrev pub verb_looking : List ℕ → Option Verb
@@ -14,6 +14,7 @@ verb_looking name =
     else if bytes_eq name (codes "frames") then Some Frames
     else if bytes_eq name (codes "words") then Some Words
     else if bytes_eq name (codes "queue") then Some Queue
+    else if bytes_eq name (codes "print") then Some Print
     else if bytes_eq name (codes "recent") then Some Recent
     else if bytes_eq name (codes "clock") then Some Clock
     else if bytes_eq name (codes "timers") then Some Timers
@@ -38,6 +39,7 @@ verb_of name =
     else if bytes_eq name (codes "turn") then Some Turn
     else if bytes_eq name (codes "go") then Some Go
     else if bytes_eq name (codes "until") then Some Until
+    else if bytes_eq name (codes "watch") then Some Watch
     else verb_marking name
 
 -- the name that a short one stands for; any other is itself
@@ -49,6 +51,7 @@ full_name name =
     else if bytes_eq name (codes "continue") then codes "go"
     else if bytes_eq name (codes "b") then codes "break"
     else if bytes_eq name (codes "bt") then codes "frames"
+    else if bytes_eq name (codes "p") then codes "print"
     else if bytes_eq name (codes "q") then codes "quit"
     else name
 

@@ -2,7 +2,7 @@
 ghost use Rattle.std.specs.Prelude.{◌≡◌, ◌≤◌, length};
 ghost use Rattle.aom_debug_protocol.specs.Answers.{phase_text};
 
-use crate::{CodeLocation, DebugFault};
+use crate::{Breakpoint, CodeLocation, DebugFault};
 
 /// How far the request of an enlisted object has come. One whose cancel is at hand is active.
 #[derive(Clone, Copy)]
@@ -76,8 +76,8 @@ pub enum Answer {
     Clock(u64),
     /// A timer of an object of a class, due at that time.
     Timer(u16, u64),
-    /// Where a breakpoint is, as the command that sets it.
-    Break(CodeLocation),
+    /// A breakpoint, as the command that sets it.
+    Break(Breakpoint),
     /// Where a method at hand stands.
     Frame(CodeLocation),
     /// What a register of it has.

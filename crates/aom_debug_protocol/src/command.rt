@@ -1,11 +1,14 @@
 //! What a line of commands says.
 ghost use Rattle.std.specs.Prelude.{◌≡◌};
 ghost use Rattle.aom_text.specs.Numbers.{number_of};
-ghost use Rattle.aom_debug_protocol.specs.Commands.{alone, break_says, breaks_at, command_of, command_said, ends_session, help_about, help_says, is_end, is_quit, is_repeated, known, line_says, may_repeat, queue_at, step_says, steps_by, unbreak_says, unbreaks_at, until_at, until_says, verb_says, words_at, words_say};
+ghost use Rattle.aom_debug_protocol.specs.Commands.{alone, break_says, breaks_at, command_of, command_said, ends_session, help_about, help_says, is_end, is_quit, is_repeated, known, line_says, may_repeat, print_of, queue_at, step_says, steps_by, unbreak_says, unbreaks_at, until_at, until_says, verb_says, watch_of, words_at, words_say};
+ghost use Rattle.aom_debug_protocol.specs.Conditions.{condition_said};
 
 use crate::DebugFault;
+use crate::condition::{Condition, read_condition};
 use crate::path::Path;
 use crate::reading::read_path;
+use crate::variable::{Variable, read_variable};
 use crate::verb::{Verb, verb_named};
 use aom_text::{Number, WordCursor};
 
@@ -27,8 +30,8 @@ pub enum Command {
     Go,
     /// Until the place of a method is next, which may be none.
     Until(Number, Number),
-    /// A breakpoint at the place of a method, which may be none.
-    Break(Number, Number),
+    /// A breakpoint at the place of a method, which may be none, at which a run stops under a condition, or always.
+    Break(Number, Number, Condition),
     /// No breakpoint there any more.
     Unbreak(Number, Number),
     /// Where the breakpoints are.
@@ -49,6 +52,10 @@ pub enum Command {
     Words(Path),
     /// What waits at a server that is owned there.
     Queue(Path),
+    /// What a register or a word has.
+    Print(Variable),
+    /// Until a register or a word has something else.
+    Watch(Variable),
 }
 
 /// What a line says, which is given without its line feed; nothing where it has no word.
@@ -143,6 +150,8 @@ fn read_words(verb: Verb, words: WordCursor) -> Option<Command>
         Verb::Until => read_until(words),
         Verb::Words => words_at(read_path(words)),
         Verb::Queue => queue_at(read_path(words)),
+        Verb::Print => print_of(read_variable(words)),
+        Verb::Watch => watch_of(read_variable(words)),
         Verb::Help => read_help(words),
         _ => read_alone(verb, words),
     }
@@ -175,6 +184,26 @@ fn queue_at(path: Option<Path>) -> Option<Command>
 {
     match path {
         Some(path) => Some(Command::Queue(path)),
+        None => None,
+    }
+}
+
+/// What a register or a word has.
+fn print_of(variable: Option<Variable>) -> Option<Command>
+    ensures { result ≡ print_of variable }
+{
+    match variable {
+        Some(variable) => Some(Command::Print(variable)),
+        None => None,
+    }
+}
+
+/// Until a register or a word has something else.
+fn watch_of(variable: Option<Variable>) -> Option<Command>
+    ensures { result ≡ watch_of variable }
+{
+    match variable {
+        Some(variable) => Some(Command::Watch(variable)),
         None => None,
     }
 }
@@ -246,16 +275,22 @@ fn read_break(mut words: WordCursor) -> Option<Command>
     ensures { result ≡ break_says words.entry }
 {
     match (words.next(), words.next()) {
-        (Some(method), Some(place)) if words.is_empty() => break_at(method, place),
+        (Some(method), Some(place)) => break_at(method, place, read_condition(words)),
         _ => None,
     }
 }
 
-fn break_at(method: &[u8], place: &[u8]) -> Option<Command>
-    ensures { result ≡ breaks_at (number_of method.now) (number_of place.now) }
+fn break_at(
+    method: &[u8],
+    place: &[u8],
+    condition: Result<Condition, DebugFault>,
+) -> Option<Command>
+    ensures { result ≡ breaks_at (number_of method.now) (number_of place.now) condition }
 {
-    match (Number::of(method), Number::of(place)) {
-        (Some(method), Some(place)) => Some(Command::Break(method, place)),
+    match (Number::of(method), Number::of(place), condition) {
+        (Some(method), Some(place), Ok(condition)) => {
+            Some(Command::Break(method, place, condition))
+        }
         _ => None,
     }
 }

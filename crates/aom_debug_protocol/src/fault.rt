@@ -17,6 +17,8 @@ pub enum DebugFault {
     OutOfMemory,
     /// What the command tells could not be written.
     WriteFault,
+    /// A register or a word that is not there: no such object, no such word of it, no method at hand, or the register is not set.
+    NotThere,
 }
 
 impl DebugFault {

@@ -21,9 +21,14 @@ METHOD PLACE: by their numbers; with a text also NAME PLACE or line LINE
 with a text also NAME, its place 0, LINE or FILE:LINE alone
 ";
 
+const WATCH: &[u8] = b"watch VARIABLE: on until it has another value
+VARIABLE: rN or wN of the innermost method, or PATH.wN
+";
+
 const BREAK: &[u8] = b"break METHOD PLACE: a breakpoint there
 METHOD PLACE: by their numbers; with a text also NAME PLACE or line LINE
 with a text also NAME, its place 0, LINE or FILE:LINE alone
+behind it also if rN == K, if rN != K or if rN < K: only where that holds
 short: b
 ";
 
@@ -34,6 +39,11 @@ with a text also NAME, its place 0, LINE or FILE:LINE alone
 
 const FRAMES: &[u8] = b"frames: the methods at hand
 short: bt
+";
+
+const PRINT: &[u8] = b"print VARIABLE: what it has
+VARIABLE: rN or wN of the innermost method, or PATH.wN
+short: p
 ";
 
 const HELP: &[u8] = b"help: all commands
@@ -54,6 +64,7 @@ finish: on to the end of the method
 turn: on to the end of the dispatch
 go: on to a breakpoint
 until METHOD PLACE: on to that place
+watch VARIABLE: on until it has another value
 break METHOD PLACE: a breakpoint there
 unbreak METHOD PLACE: no breakpoint there
 breaks: all breakpoints
@@ -64,6 +75,7 @@ actives: who waits for what
 frames: the methods at hand
 words PATH: the words of an object
 queue PATH: what waits at a server
+print VARIABLE: what it has
 recent: the latest instructions
 clock: the time
 timers: who is due, and when
@@ -94,6 +106,7 @@ fn help_of(verb: Verb) -> &'static [u8]
         Verb::Turn => b"turn: on to the end of the dispatch\n".as_slice(),
         Verb::Go => GO,
         Verb::Until => UNTIL,
+        Verb::Watch => WATCH,
         Verb::Break => BREAK,
         Verb::Unbreak => UNBREAK,
         Verb::Breaks => b"breaks: all breakpoints\n".as_slice(),
@@ -104,6 +117,7 @@ fn help_of(verb: Verb) -> &'static [u8]
         Verb::Frames => FRAMES,
         Verb::Words => b"words PATH: the words of an object\n".as_slice(),
         Verb::Queue => b"queue PATH: what waits at a server\n".as_slice(),
+        Verb::Print => PRINT,
         Verb::Recent => b"recent: the latest instructions\n".as_slice(),
         Verb::Clock => b"clock: the time\n".as_slice(),
         Verb::Timers => b"timers: who is due, and when\n".as_slice(),

@@ -2,13 +2,16 @@
 ghost use Rattle.std.specs.Prelude.{◌≡◌, ◌+◌, ◌≤◌, [], ◌++◌, length, decimal, codes};
 ghost use Rattle.std.specs.Fmt.{signed_decimal};
 ghost use Rattle.aom_transcript.specs.Text.{ended};
+ghost use Rattle.aom_debug_protocol.specs.Conditions.{condition_text};
+ghost use Rattle.aom_debug_protocol.specs.declared.condition.Condition.TheVariants.{Where};
 ghost use Rattle.aom_debug_protocol.specs.Answers.{active_text, answer_text, content_text, numbers_text, register_text, server_text, source_text, spot_text};
 
-use crate::{Answer, CodeLocation, Content, Phase, Source};
+use crate::{Answer, Breakpoint, CodeLocation, Comparison, Condition, Content, Phase, Source};
+use aom_instructions::Register;
 use aom_transcript::Text;
 
 /// No answer's line is longer.
-const LONGEST: usize = 64;
+const LONGEST: usize = 128;
 
 /// The line of an answer, with its line feed.
 pub type AnswerLine = Text<LONGEST>;
@@ -25,7 +28,7 @@ pub fn line_of(answer: Answer) -> AnswerLine
 fn add_answer(line: &mut AnswerLine, answer: Answer)
     requires { line.old ≡ [] }
     ensures text { line.new ≡ answer_text answer }
-    ensures short { length line.new ≤ 60 }
+    ensures short { length line.new ≤ 120 }
 {
     match answer {
         Answer::Done => line.add(b"ok"),
@@ -45,7 +48,7 @@ fn add_answer(line: &mut AnswerLine, answer: Answer)
         Answer::Server(class, priority, queued) => add_server(line, class, priority, queued),
         Answer::Clock(time) => line.add_count(b"clock ", time),
         Answer::Timer(class, due) => add_timer(line, class, due),
-        Answer::Break(spot) => add_break(line, spot),
+        Answer::Break(breakpoint) => add_break(line, breakpoint),
         Answer::Frame(spot) => add_two(line, spot.method, spot.place),
         Answer::Register(register, content) => add_register(line, register, content),
         Answer::Loop(number, rounds) => add_loop(line, number, rounds),
@@ -66,13 +69,43 @@ fn add_at(line: &mut AnswerLine, spot: CodeLocation)
     line.add_count(b" ", spot.place);
 }
 
-fn add_break(line: &mut AnswerLine, spot: CodeLocation)
+fn add_break(line: &mut AnswerLine, breakpoint: Breakpoint)
     requires { line.old ≡ [] }
-    ensures text { line.new ≡ codes "break " ++ spot_text spot }
-    ensures short { length line.new ≤ 47 }
+    ensures text { line.new ≡ codes "break " ++ spot_text breakpoint.spot ++ condition_text breakpoint.condition }
+    ensures short { length line.new ≤ 120 }
 {
-    line.add_count(b"break ", spot.method);
-    line.add_count(b" ", spot.place);
+    line.add_count(b"break ", breakpoint.spot.method);
+    line.add_count(b" ", breakpoint.spot.place);
+    add_condition(line, breakpoint.condition);
+}
+
+/// Adds when a run stops at a breakpoint, where that is not always.
+pub fn add_condition<const N: usize>(line: &mut Text<N>, condition: Condition)
+    requires { length line.old + 56 ≤ N }
+    ensures text { line.new ≡ line.old ++ condition_text condition }
+    ensures short { length line.new ≤ length line.old + 56 }
+{
+    match condition {
+        Condition::Always => {}
+        Condition::Where(register, comparison, word) => {
+            add_comparison(line, register, comparison, word);
+        }
+    }
+}
+
+fn add_comparison<const N: usize>(
+    line: &mut Text<N>,
+    register: Register,
+    comparison: Comparison,
+    word: i32,
+)
+    requires { length line.old + 56 ≤ N }
+    ensures text { line.new ≡ line.old ++ condition_text (Where register comparison word) }
+    ensures short { length line.new ≤ length line.old + 56 }
+{
+    line.add_count(b" if r", register.number());
+    line.add(comparison.words());
+    line.add_number(word);
 }
 
 fn add_register(line: &mut AnswerLine, register: u8, content: Content)

@@ -24,7 +24,7 @@ pub fn read_path(mut words: WordCursor) -> Option<Path>
 }
 
 /// The way from a place that has no number.
-fn read_plain(word: &[u8]) -> Option<Path>
+pub(crate) fn read_plain(word: &[u8]) -> Option<Path>
     ensures { result ≡ path_by plain_outer (slice_split is_dot word.now) }
 {
     let (place, rest) = first_part(word);
@@ -32,7 +32,7 @@ fn read_plain(word: &[u8]) -> Option<Path>
 }
 
 /// The way from a place with a number.
-fn read_numbered(place: &[u8], word: &[u8]) -> Option<Path>
+pub(crate) fn read_numbered(place: &[u8], word: &[u8]) -> Option<Path>
     ensures { result ≡ path_by (numbered_outer place.now) (slice_split is_dot word.now) }
 {
     let (number, rest) = first_part(word);
@@ -40,7 +40,7 @@ fn read_numbered(place: &[u8], word: &[u8]) -> Option<Path>
 }
 
 /// The way from a register of a method.
-fn read_register(place: &[u8], frame: &[u8], word: &[u8]) -> Option<Path>
+pub(crate) fn read_register(place: &[u8], frame: &[u8], word: &[u8]) -> Option<Path>
     ensures { result ≡ path_by (register_outer place.now frame.now) (slice_split is_dot word.now) }
 {
     let (register, rest) = first_part(word);
@@ -93,7 +93,7 @@ fn register_by(frame: &[u8], digits: &[u8]) -> Option<Outer>
 }
 
 /// The number that a word spells, from 0 to high.
-fn up_to(word: &[u8], high: u32) -> Option<u32>
+pub(crate) fn up_to(word: &[u8], high: u32) -> Option<u32>
     ensures value { result ≡ up_to high (number_of word.now) }
     ensures within { IfSome result (λ n. n ≤ high) }
 {

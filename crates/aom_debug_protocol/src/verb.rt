@@ -21,6 +21,8 @@ pub enum Verb {
     Frames,
     Words,
     Queue,
+    Print,
+    Watch,
     Recent,
     Clock,
     Timers,
@@ -51,6 +53,8 @@ fn full_name(name: &[u8]) -> &[u8]
         b"break".as_slice()
     } else if name == b"bt".as_slice() {
         b"frames".as_slice()
+    } else if name == b"p".as_slice() {
+        b"print".as_slice()
     } else if name == b"q".as_slice() {
         b"quit".as_slice()
     } else {
@@ -74,6 +78,8 @@ fn verb_of(name: &[u8]) -> Option<Verb>
         Some(Verb::Go)
     } else if name == b"until".as_slice() {
         Some(Verb::Until)
+    } else if name == b"watch".as_slice() {
+        Some(Verb::Watch)
     } else {
         verb_marking(name)
     }
@@ -116,6 +122,8 @@ fn verb_looking(name: &[u8]) -> Option<Verb>
         Some(Verb::Words)
     } else if name == b"queue".as_slice() {
         Some(Verb::Queue)
+    } else if name == b"print".as_slice() {
+        Some(Verb::Print)
     } else if name == b"recent".as_slice() {
         Some(Verb::Recent)
     } else if name == b"clock".as_slice() {

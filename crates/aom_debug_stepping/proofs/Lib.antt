@@ -5,6 +5,8 @@ mod DebugSteps
 mod Going
 mod Turning
 mod Scopes
+mod Typed
+mod Changing
 mod Passing
 mod Limits
 mod Leaving

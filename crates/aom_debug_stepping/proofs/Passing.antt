@@ -15,6 +15,8 @@ use Rattle.aom_debug_stepping.specs.Sends.{Breaks, HostedMachine, Sends, Then}
 use Rattle.aom_debug_stepping.specs.Runners.{KeepsRunner, outside_of}
 use Rattle.aom_debug_stepping.specs.declared.runner.Runner.{Runner}
 use Rattle.aom_debug_stepping.proofs.RunLemmas.{reaches_both}
+use Rattle.aom_typing_rules.specs.Typing.{Typing}
+use Rattle.aom_debug_protocol.specs.declared.breakpoints.Breakpoint.{Breakpoint}
 use Rattle.aom_debug_protocol.specs.declared.spot.CodeLocation.{CodeLocation}
 use Rattle.aom_debug_stepping.specs.Moves.{Arrives, DebugSteps, stays as no_turns, turns}
 use Rattle.aom_debug_stepping.proofs.Keeping.{observed_as}
@@ -178,10 +180,10 @@ module _ {X : Type 0} {B : X → Type 0} (p : Image) (outside : Environment) (st
 
 -- ---- by what a loop of dispatches keeps
 
-module _ {X : Type 0} {B : X → Type 0} (a m n : Runner X B) (keeps : KeepsRunner a m) (until : Until) (marks : List CodeLocation) (here out : Option (List ℕ)) where
+module _ {X : Type 0} {B : X → Type 0} (a m n : Runner X B) (keeps : KeepsRunner a m) (t : Typing) (until : Until) (bs : List Breakpoint) (here out : Option (List ℕ)) where
   -- a dispatch from one state to another, up to a place to stay
   abbrev Passed : Image → Environment → Type 0
-  Passed q outside = Sends (InDispatch q outside (WalksOn q outside.refused (λ (s : State). stays_at q until marks s)) m.recent n.recent)
+  Passed q outside = Sends (InDispatch q outside (WalksOn q outside.refused (λ (s : State). stays_at t q until bs s)) m.recent n.recent)
       m.machine here out n.machine
 
   pub passed : Passed m.machine.core.image (outside_of m) → Passed a.machine.core.image (outside_of a)

@@ -1,5 +1,5 @@
 -- Each course is a run: its turns are, and its steps.
-use Rattle.std.proofs.Common.{◌⊎◌, ◌++◌, ℕ, suc, Bool, List, inl, inr, sym, subst, append-nil, ap, ◌∙◌}
+use Rattle.std.proofs.Common.{◌⊎◌, ◌++◌, ℕ, suc, Bool, true, false, List, inl, inr, sym, subst, append-nil, ap, ◌∙◌}
 use Rattle.aom_image.specs.Image.{Image}
 use Rattle.aom_semantics.specs.State.{State}
 use Rattle.aom_semantics.specs.World.{Environment, Reaches}
@@ -8,15 +8,19 @@ use Rattle.aom_machine.specs.Steps.{HasTask}
 use Rattle.aom_run.specs.Runs.{Moving}
 use Rattle.aom_debug_stepping.proofs.RunLemmas.{reaches_both}
 use Rattle.aom_debug_stepping.specs.Next.{root_is_due}
+use Rattle.aom_typing_rules.specs.Typing.{Typing}
+use Rattle.aom_debug_protocol.specs.declared.breakpoints.Breakpoint.{Breakpoint as BreakpointRecord}
 use Rattle.aom_debug_protocol.specs.declared.spot.CodeLocation.{CodeLocation}
 use Rattle.aom_debug_stepping.proofs.Sending.{reaches_arrived}
 use Rattle.aom_debug_stepping.specs.RunGoals.{RunGoals, GoesBy, GoesOn, GoesOver, InDispatch, IsOver, Rests, TurnsOver, WalksOver, WalksThere, run_goal_of, stays_at}
-use Rattle.aom_debug_stepping.specs.RunGoals.{way_of}
+use Rattle.aom_debug_stepping.specs.RunGoals.{change_by, way_of}
+use Rattle.aom_debug_stepping.specs.Stops.{is_local}
+use Rattle.aom_debug_stepping.specs.declared.watching.Watched.{Watched}
 use Rattle.aom_debug_stepping.specs.declared.run_goals.RunGoal.{RunGoal}
 use Rattle.aom_debug_stepping.specs.declared.run_goals.RunGoal.TheVariants as course
 use Rattle.aom_debug_stepping.specs.Over.{depth_of}
 use Rattle.aom_debug_stepping.specs.declared.over.Awaited.{Awaited}
-use Rattle.aom_debug_stepping.specs.declared.walking.Until.TheVariants.{Breakpoint, Depth, Place}
+use Rattle.aom_debug_stepping.specs.declared.walking.Until.TheVariants.{Breakpoint, Change, Depth, Place}
 use Rattle.aom_debug_stepping.proofs.Going.{reaches_goes, run_of}
 use Rattle.aom_debug_stepping.proofs.Passing.{reaches_passed}
 use Rattle.aom_debug_stepping.proofs.Limits.{reaches_to_limit}
@@ -51,10 +55,10 @@ pub reaches_over : (p : Image) (outside : Environment) (old new : List CodeLocat
     TurnsOver p outside old new s lines u → Reaches p outside s lines u
 reaches_over p outside = reaches_in p outside (WalksThere p outside.refused (λ s. root_is_due p s)) (moving_there p outside.refused (λ s. root_is_due p s))
 
-pub reaches_step_over : (p : Image) (outside : Environment) (scope : Awaited) (spots : List CodeLocation)
-    (old new : List CodeLocation) (s : State) (lines : List Line) (u : State) → GoesOver p outside scope spots old new s lines u → Reaches p outside s lines u
-reaches_step_over p outside scope spots = reaches_in p outside
-    (WalksOver p outside.refused scope spots) (λ old new s. moving_there p outside.refused (λ v. stays_at p (Depth (depth_of scope s.tasks)) spots v) old new s)
+pub reaches_step_over : (p : Image) (outside : Environment) (scope : Awaited) (bs : List BreakpointRecord)
+    (old new : List CodeLocation) (s : State) (lines : List Line) (u : State) → GoesOver p outside scope bs old new s lines u → Reaches p outside s lines u
+reaches_step_over p outside scope bs old new s lines u x = reaches_in p outside (WalksOver x.0 p outside.refused scope bs)
+    (λ old new s. moving_there p outside.refused (λ v. stays_at x.0 p (Depth (depth_of scope s.tasks)) bs v) old new s) old new s lines u x.2
 
 pub reaches_on : (p : Image) (outside : Environment) (stays : State → Bool) (old new : List CodeLocation) (s : State) (lines : List Line) (u : State) →
     GoesOn p outside stays old new s lines u → Reaches p outside s lines u
@@ -63,15 +67,23 @@ reaches_on p outside stays old new s lines u x =
     subst (λ ls. Reaches p outside s ls u) (sym z.5)
     (reaches_both p outside s z.1 z.0 z.2 u (reaches_passed p outside stays old s x.0 new z.1 z.0 z.3) (reaches_arrived p outside z.0 z.2 u z.4))
 
--- with the run's end by its limit it is a run too
-reaches_way : (p : Image) (outside : Environment) (spots : List CodeLocation) (way : RunGoal) (old new : List CodeLocation) (s : State) (lines : List Line) (u : State) →
-    way_of p outside spots way old new s lines u → Reaches p outside s lines u
-reaches_way p outside spots (course.Steps n) = reaches_by p outside n
-reaches_way p outside spots course.EndOfDispatch = reaches_over p outside
-reaches_way p outside spots course.Breakpoint = reaches_on p outside (λ s. stays_at p Breakpoint spots s)
-reaches_way p outside spots (course.Over scope) = reaches_step_over p outside scope spots
-reaches_way p outside spots (course.Place spot) = reaches_on p outside (λ s. stays_at p (Place spot) spots s)
+-- until what is watched has changed
+reaches_change : (local : Bool) (t : Typing) (p : Image) (outside : Environment) (w : Watched) (bs : List BreakpointRecord)
+    (old new : List CodeLocation) (s : State) (lines : List Line) (u : State) → change_by local t p outside w bs old new s lines u → Reaches p outside s lines u
+reaches_change true t p outside w bs = reaches_in p outside (WalksThere p outside.refused (λ s. stays_at t p (Change w) bs s))
+    (moving_there p outside.refused (λ s. stays_at t p (Change w) bs s))
+reaches_change false t p outside w bs = reaches_on p outside (λ s. stays_at t p (Change w) bs s)
 
-pub reaches_course : (p : Image) (outside : Environment) (spots : List CodeLocation) (way : RunGoal) (old new : List CodeLocation) (s : State) (lines : List Line) (u : State) →
-    run_goal_of p outside spots way old new s lines u → Reaches p outside s lines u
-reaches_course p outside spots way = reaches_to_limit p outside (way_of p outside spots way) (reaches_way p outside spots way)
+-- with the run's end by its limit it is a run too
+reaches_way : (p : Image) (outside : Environment) (bs : List BreakpointRecord) (way : RunGoal) (old new : List CodeLocation) (s : State) (lines : List Line) (u : State) →
+    way_of p outside bs way old new s lines u → Reaches p outside s lines u
+reaches_way p outside bs (course.Steps n) old new s lines u x = reaches_by p outside n old new s lines u x
+reaches_way p outside bs course.EndOfDispatch old new s lines u x = reaches_over p outside old new s lines u x
+reaches_way p outside bs course.Breakpoint old new s lines u x = reaches_on p outside (λ v. stays_at x.0 p Breakpoint bs v) old new s lines u x.2
+reaches_way p outside bs (course.Over scope) old new s lines u x = reaches_step_over p outside scope bs old new s lines u x
+reaches_way p outside bs (course.Place spot) old new s lines u x = reaches_on p outside (λ v. stays_at x.0 p (Place spot) bs v) old new s lines u x.2
+reaches_way p outside bs (course.Change w) old new s lines u x = reaches_change (is_local w.variable) x.0 p outside w bs old new s lines u x.2
+
+pub reaches_course : (p : Image) (outside : Environment) (bs : List BreakpointRecord) (way : RunGoal) (old new : List CodeLocation) (s : State) (lines : List Line) (u : State) →
+    run_goal_of p outside bs way old new s lines u → Reaches p outside s lines u
+reaches_course p outside bs way = reaches_to_limit p outside (way_of p outside bs way) (reaches_way p outside bs way)

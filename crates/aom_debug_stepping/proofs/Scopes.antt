@@ -9,6 +9,8 @@ use Rattle.aom_semantics.specs.State.{State, Task}
 use Rattle.aom_machine_state.specs.Agrees.{SameTask, SameTasks}
 use Rattle.aom_debug_stepping.proofs.MachineStateLemmas.{by_tasks, same_length}
 use Rattle.aom_run.specs.Calls.{RefinesWithNatives}
+use Rattle.aom_typing_rules.specs.Typing.{Typing}
+use Rattle.aom_debug_protocol.specs.declared.breakpoints.Breakpoint.{Breakpoint}
 use Rattle.aom_debug_protocol.specs.declared.spot.CodeLocation.{CodeLocation}
 use Rattle.aom_debug_stepping.specs.Sends.{HostedMachine, Sends}
 use Rattle.aom_debug_stepping.specs.RunGoals.{WalksOver, WalksThere, stays_at}
@@ -69,9 +71,9 @@ under_reported ms us same = last_under ms ∙ same_under ms us same
 
 -- ---- a walk by that depth
 
-pub walks_over : {X : Type 0} {B : X → Type 0} (p : Image) (refused : List ℕ) (scope : Awaited) (spots old new : List CodeLocation)
+pub walks_over : {X : Type 0} {B : X → Type 0} (t : Typing) (p : Image) (refused : List ℕ) (scope : Awaited) (bs : List Breakpoint) (old new : List CodeLocation)
     (depth : ℕ) (a c : HostedMachine X B) (before out : Option (List ℕ)) → ((s : State) → RefinesWithNatives a s → depth ≡ depth_of scope s.tasks) →
-    Sends (WalksThere p refused (λ v. stays_at p (Depth depth) spots v) old new) a before out c → Sends (WalksOver p refused scope spots old new) a before out c
-walks_over p refused scope spots old new depth a c before out reported x s stands =
+    Sends (WalksThere p refused (λ v. stays_at t p (Depth depth) bs v) old new) a before out c → Sends (WalksOver t p refused scope bs old new) a before out c
+walks_over t p refused scope bs old new depth a c before out reported x s stands =
     let f = x s stands in
-    (f.0, f.1, subst (λ n. WalksThere p refused (λ v. stays_at p (Depth n) spots v) old new s f.0 f.1) (reported s stands) f.2, f.3, f.4)
+    (f.0, f.1, subst (λ n. WalksThere p refused (λ v. stays_at t p (Depth n) bs v) old new s f.0 f.1) (reported s stands) f.2, f.3, f.4)

@@ -4,6 +4,7 @@ pub mod Moves
 pub mod Sends
 pub mod Laws
 pub mod Over
+pub mod Stops
 pub mod RunGoals
 pub mod RunGoalLaws
 -- what is said of the machine and of its runs, for those who say it of a debugger

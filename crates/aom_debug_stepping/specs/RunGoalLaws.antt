@@ -4,6 +4,7 @@ use Rattle.aom_image.specs.Image.{Image}
 use Rattle.aom_semantics.specs.State.{State}
 use Rattle.aom_semantics.specs.World.{Environment, Reaches}
 use Rattle.aom_transcript.specs.declared.line.Line.{Line}
+use Rattle.aom_debug_protocol.specs.declared.breakpoints.Breakpoint.{Breakpoint}
 use Rattle.aom_debug_protocol.specs.declared.spot.CodeLocation.{CodeLocation}
 use Rattle.aom_debug_stepping.specs.RunGoals.{RunGoals, GoesBy, GoesOn, GoesOver, TurnsOver, run_goal_of}
 use Rattle.aom_debug_stepping.specs.declared.run_goals.RunGoal.{RunGoal}
@@ -23,8 +24,8 @@ abbrev pub GoingRuns : Type 0
 GoingRuns = (p : Image) (outside : Environment) (stays : State → Bool) → AreRuns p outside (GoesOn p outside stays)
 
 abbrev pub OverRuns : Type 0
-OverRuns = (p : Image) (outside : Environment) (scope : Awaited) (spots : List CodeLocation) → AreRuns p outside (GoesOver p outside scope spots)
+OverRuns = (p : Image) (outside : Environment) (scope : Awaited) (bs : List Breakpoint) → AreRuns p outside (GoesOver p outside scope bs)
 
 -- and so is each course, with which the run may end by its limit
 abbrev pub RunGoalsRun : Type 0
-RunGoalsRun = (p : Image) (outside : Environment) (spots : List CodeLocation) (way : RunGoal) → AreRuns p outside (run_goal_of p outside spots way)
+RunGoalsRun = (p : Image) (outside : Environment) (bs : List Breakpoint) (way : RunGoal) → AreRuns p outside (run_goal_of p outside bs way)

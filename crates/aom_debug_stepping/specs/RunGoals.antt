@@ -7,7 +7,10 @@ use Rattle.aom_transcript.specs.declared.line.Line.{Line}
 use Rattle.aom_machine_state.specs.declared.progress.Progress.TheVariants.{Running}
 use Rattle.aom_machine_state.specs.Progress.{progress_of}
 use Rattle.aom_machine.specs.Steps.{HasTask}
-use Rattle.aom_debug_protocol.specs.Marks.{has_spot, same_spot}
+use Rattle.aom_typing_rules.specs.Typing.{Typing}
+use Rattle.aom_static_bounds.specs.Strongest.{IsStrongest}
+use Rattle.aom_debug_protocol.specs.Marks.{same_spot}
+use Rattle.aom_debug_protocol.specs.declared.breakpoints.Breakpoint.{Breakpoint as BreakpointRecord}
 use Rattle.aom_debug_protocol.specs.declared.spot.CodeLocation.{CodeLocation}
 use Rattle.aom_debug_stepping.specs.Next.{next_of, root_is_due, spot_of}
 use Rattle.aom_debug_stepping.specs.Moves.{Arrives, EndsByLimit, DebugSteps, is_at_limit}
@@ -19,7 +22,9 @@ use Rattle.aom_debug_stepping.specs.declared.run_goals.RunGoal.TheVariants as co
 use Rattle.aom_debug_stepping.specs.declared.dispatch.DispatchGoal.{DispatchGoal}
 use Rattle.aom_debug_stepping.specs.declared.dispatch.DispatchGoal.TheVariants as stretch
 use Rattle.aom_debug_stepping.specs.declared.walking.Until.{Until}
-use Rattle.aom_debug_stepping.specs.declared.walking.Until.TheVariants.{EndOfDispatch, Breakpoint, Depth, Place}
+use Rattle.aom_debug_stepping.specs.declared.walking.Until.TheVariants.{EndOfDispatch, Breakpoint, Change, Depth, Place}
+use Rattle.aom_debug_stepping.specs.declared.watching.Watched.{Watched}
+use Rattle.aom_debug_stepping.specs.Stops.{has_changed, is_broken, is_local}
 
 -- what leads from a state to another, as the latest instructions are these before and after
 abbrev pub RunGoals : Type 1
@@ -27,22 +32,22 @@ RunGoals = List CodeLocation → List CodeLocation → Leads
 
 -- ---- places to stay
 
--- an instruction with a breakpoint is next
-abbrev pub is_broken : List CodeLocation → Option CodeLocation → Bool
-is_broken spots None = false
-is_broken spots (Some spot) = has_spot spot spots
-
 -- that instruction is next
 abbrev pub is_next : CodeLocation → Option CodeLocation → Bool
 is_next spot None = false
 is_next spot (Some next) = same_spot next spot
 
 -- a place to stay, where something is at hand
-abbrev pub stays_at : Image → Until → List CodeLocation → State → Bool
-stays_at p EndOfDispatch spots s = root_is_due p s
-stays_at p Breakpoint spots s = is_broken spots (spot_of (next_of p s))
-stays_at p (Depth n) spots s = nat_le (length s.tasks) n || is_broken spots (spot_of (next_of p s))
-stays_at p (Place spot) spots s = is_next spot (spot_of (next_of p s)) || is_broken spots (spot_of (next_of p s))
+abbrev pub stays_at : Typing → Image → Until → List BreakpointRecord → State → Bool
+stays_at t p EndOfDispatch bs s = root_is_due p s
+stays_at t p Breakpoint bs s = is_broken t s bs (spot_of (next_of p s))
+stays_at t p (Depth n) bs s = nat_le (length s.tasks) n || is_broken t s bs (spot_of (next_of p s))
+stays_at t p (Place spot) bs s = is_next spot (spot_of (next_of p s)) || is_broken t s bs (spot_of (next_of p s))
+stays_at t p (Change w) bs s = has_changed t p w s || is_broken t s bs (spot_of (next_of p s))
+
+-- by the strongest typing
+abbrev pub ByTyping : Image → (Typing → RunGoals) → RunGoals
+ByTyping p leads old new s lines u = (t : Typing) × IsStrongest p t × leads t old new s lines u
 
 -- the run is over
 abbrev pub IsOver : State → Type 0
@@ -91,18 +96,19 @@ TurnsOver p outside = InDispatch p outside (WalksThere p outside.refused (λ s. 
 -- ---- until something is over
 
 -- one step at least, until no more tasks are at hand than may be where it is over, or an instruction with a breakpoint is next
-abbrev pub WalksOver : Image → List ℕ → Awaited → List CodeLocation → RunGoals
-WalksOver p refused scope spots old new s = WalksThere p refused (λ v. stays_at p (Depth (depth_of scope s.tasks)) spots v) old new s
+abbrev pub WalksOver : Typing → Image → List ℕ → Awaited → List BreakpointRecord → RunGoals
+WalksOver t p refused scope bs old new s = WalksThere p refused (λ v. stays_at t p (Depth (depth_of scope s.tasks)) bs v) old new s
 
-abbrev pub GoesOver : Image → Environment → Awaited → List CodeLocation → RunGoals
-GoesOver p outside scope spots = InDispatch p outside (WalksOver p outside.refused scope spots)
+abbrev pub GoesOver : Image → Environment → Awaited → List BreakpointRecord → RunGoals
+GoesOver p outside scope bs = ByTyping p (λ t. InDispatch p outside (WalksOver t p outside.refused scope bs))
 
 -- ---- so far in a dispatch
 
-abbrev pub dispatch_goal_of : Image → List ℕ → List CodeLocation → DispatchGoal → RunGoals
-dispatch_goal_of p refused spots stretch.Whole = WalksThere p refused (λ s. root_is_due p s)
-dispatch_goal_of p refused spots (stretch.Over scope) = WalksOver p refused scope spots
-dispatch_goal_of p refused spots (stretch.OnTo until) = WalksOn p refused (λ s. stays_at p until spots s)
+abbrev pub dispatch_goal_of : Typing → Image → List ℕ → List BreakpointRecord → DispatchGoal → RunGoals
+dispatch_goal_of t p refused bs stretch.Whole = WalksThere p refused (λ s. root_is_due p s)
+dispatch_goal_of t p refused bs (stretch.Over scope) = WalksOver t p refused scope bs
+dispatch_goal_of t p refused bs (stretch.To until) = WalksThere p refused (λ s. stays_at t p until bs s)
+dispatch_goal_of t p refused bs (stretch.OnTo until) = WalksOn p refused (λ s. stays_at t p until bs s)
 
 -- ---- so many steps
 
@@ -131,25 +137,34 @@ abbrev pub GoesOn : Image → Environment → (State → Bool) → RunGoals
 GoesOn p outside stays old new s lines u = (n : ℕ) × Then (λ a ls b. Passes p outside stays old a n new ls b) (Arrives p outside) s lines u × HasBegun n s × (IsOver u ⊎ (stays u ≡ true))
 
 -- until an instruction with a breakpoint is next, but for where it begins, or to the end of the run
-abbrev pub GoesToBreakpoint : Image → Environment → List CodeLocation → RunGoals
-GoesToBreakpoint p outside spots = GoesOn p outside (λ s. stays_at p Breakpoint spots s)
+abbrev pub GoesToBreakpoint : Image → Environment → List BreakpointRecord → RunGoals
+GoesToBreakpoint p outside bs = ByTyping p (λ t. GoesOn p outside (λ s. stays_at t p Breakpoint bs s))
 
 -- and until that place is next
-abbrev pub GoesToPlace : Image → Environment → CodeLocation → List CodeLocation → RunGoals
-GoesToPlace p outside spot spots = GoesOn p outside (λ s. stays_at p (Place spot) spots s)
+abbrev pub GoesToPlace : Image → Environment → CodeLocation → List BreakpointRecord → RunGoals
+GoesToPlace p outside spot bs = ByTyping p (λ t. GoesOn p outside (λ s. stays_at t p (Place spot) bs s))
+
+-- and until what is watched has changed: a variable of the innermost method in its dispatch
+abbrev pub change_by : (local : Bool) → Typing → Image → Environment → Watched → List BreakpointRecord → RunGoals
+change_by true t p outside w bs = InDispatch p outside (WalksThere p outside.refused (λ s. stays_at t p (Change w) bs s))
+change_by false t p outside w bs = GoesOn p outside (λ s. stays_at t p (Change w) bs s)
+
+abbrev pub GoesToChange : Image → Environment → Watched → List BreakpointRecord → RunGoals
+GoesToChange p outside w bs = ByTyping p (λ t. change_by (is_local w.variable) t p outside w bs)
 
 -- ---- each course that a debugger is asked for
 
-abbrev pub way_of : Image → Environment → List CodeLocation → RunGoal → RunGoals
-way_of p outside spots (course.Steps n) = GoesBy p outside n
-way_of p outside spots course.EndOfDispatch = TurnsOver p outside
-way_of p outside spots course.Breakpoint = GoesToBreakpoint p outside spots
-way_of p outside spots (course.Over scope) = GoesOver p outside scope spots
-way_of p outside spots (course.Place spot) = GoesToPlace p outside spot spots
+abbrev pub way_of : Image → Environment → List BreakpointRecord → RunGoal → RunGoals
+way_of p outside bs (course.Steps n) = GoesBy p outside n
+way_of p outside bs course.EndOfDispatch = TurnsOver p outside
+way_of p outside bs course.Breakpoint = GoesToBreakpoint p outside bs
+way_of p outside bs (course.Over scope) = GoesOver p outside scope bs
+way_of p outside bs (course.Place spot) = GoesToPlace p outside spot bs
+way_of p outside bs (course.Change w) = GoesToChange p outside w bs
 
 -- where it ends with the dispatch that reaches the limit, the run ends with that too
 abbrev pub ToLimit : Image → Environment → RunGoals → RunGoals
 ToLimit p outside leads old new = Then (leads old new) (Where (is_at_limit outside) (EndsByLimit p outside))
 
-abbrev pub run_goal_of : Image → Environment → List CodeLocation → RunGoal → RunGoals
-run_goal_of p outside spots way = ToLimit p outside (way_of p outside spots way)
+abbrev pub run_goal_of : Image → Environment → List BreakpointRecord → RunGoal → RunGoals
+run_goal_of p outside bs way = ToLimit p outside (way_of p outside bs way)

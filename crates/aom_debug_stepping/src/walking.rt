@@ -6,12 +6,16 @@ ghost use Rattle.aom_run.specs.Calls.{Stands, RefinesWithNatives};
 ghost use Rattle.aom_natives.specs.Slots.{AllAgree};
 ghost use Rattle.aom_run.specs.Runs.{Moving};
 ghost use Rattle.aom_semantics.specs.State.{State};
-ghost use Rattle.aom_debug_stepping.specs.Next.{next_of, root_is_due, spot_of};
+ghost use Rattle.aom_static_bounds.specs.Strongest.{IsStrongest};
+ghost use Rattle.aom_typing_rules.specs.Typing.{Typing};
+ghost use Rattle.aom_debug_stepping.specs.Next.{root_is_due};
 ghost use Rattle.aom_debug_stepping.specs.Runners.{IsReady, KeepsRunner, Went};
-ghost use Rattle.aom_debug_stepping.specs.RunGoals.{WalksThere, WalksUnless, is_broken, stays_at};
+ghost use Rattle.aom_debug_stepping.specs.RunGoals.{WalksThere, WalksUnless, stays_at};
 
+use crate::breaking::is_broken;
 use crate::over::{is_next, is_shallower};
-use crate::{Runner, debug_step, is_due, spot_at};
+use crate::watching::{Watched, has_changed};
+use crate::{Runner, debug_step, is_due};
 use aom_debug_protocol::{Breakpoints, CodeLocation};
 use aom_machine::Progress;
 use aom_natives::Native;
@@ -19,7 +23,7 @@ use aom_run::HostedMachine;
 use aom_transcript::Sink;
 
 /// Where steps end, if not before.
-#[derive(Clone, Copy)]
+#[derive(Drop)]
 pub enum Until {
     EndOfDispatch,
     Breakpoint,
@@ -27,6 +31,8 @@ pub enum Until {
     Depth(usize),
     /// That instruction is next, or one with a breakpoint.
     Place(CodeLocation),
+    /// What is watched has changed, or an instruction with a breakpoint is next.
+    Change(Watched),
 }
 
 /// Whether the root's destruction is due.
@@ -36,27 +42,19 @@ fn ends_all(machine: &HostedMachine) -> bool
     is_due(machine.core.parts(), machine.core.accepted().linked())
 }
 
-/// Whether the instruction that is next has a breakpoint.
-fn is_broken(machine: &HostedMachine, breakpoints: &Breakpoints) -> bool
-    requires { Stands machine.now }
-    ensures { (s : State) → RefinesWithNatives machine.now s → result ≡ is_broken breakpoints.now (spot_of (next_of machine.now.core.image s)) }
-{
-    match spot_at(machine.core.parts(), machine.core.accepted().linked()) {
-        Some(spot) => breakpoints.has(spot),
-        None => false,
-    }
-}
-
 /// Whether the machine is at a place to stay.
-pub fn is_there(machine: &HostedMachine, until: Until, breakpoints: &Breakpoints) -> bool
+pub fn is_there(machine: &HostedMachine, until: &Until, breakpoints: &Breakpoints) -> bool
     requires { Stands machine.now }
-    ensures { (s : State) → RefinesWithNatives machine.now s → result ≡ stays_at machine.now.core.image until breakpoints.now s }
+    ensures { (t : Typing) → IsStrongest machine.now.core.image t → (s : State) → RefinesWithNatives machine.now s → result ≡ stays_at t machine.now.core.image until.now breakpoints.now s }
 {
     match until {
         Until::EndOfDispatch => ends_all(machine),
         Until::Breakpoint => is_broken(machine, breakpoints),
-        Until::Depth(depth) => is_shallower(machine, depth) || is_broken(machine, breakpoints),
-        Until::Place(spot) => is_next(machine, spot) || is_broken(machine, breakpoints),
+        Until::Depth(depth) => is_shallower(machine, *depth) || is_broken(machine, breakpoints),
+        Until::Place(spot) => is_next(machine, *spot) || is_broken(machine, breakpoints),
+        Until::Change(watched) => {
+            has_changed(machine, watched) || is_broken(machine, breakpoints)
+        }
     }
 }
 
@@ -71,7 +69,7 @@ pub fn is_idle(machine: &HostedMachine) -> bool
 /// Steps from something at hand until nothing is, or the machine is at a place to stay; one at least.
 pub fn walk<W: Sink>(
     runner: &mut Runner,
-    until: Until,
+    until: &Until,
     breakpoints: &Breakpoints,
     out: &mut W,
 ) -> Option<Progress>
@@ -80,7 +78,7 @@ pub fn walk<W: Sink>(
     requires running { progress runner.old.machine.core ≡ Running }
     ensures agree { AllAgree (λ l. l.ids) (λ l. (⟦<dyn Native as Native>⟧ l.native.vtable).owed l.native.value) runner.new.machine.natives.slots.items }
     ensures keeps { KeepsRunner runner.old runner.new }
-    ensures went { Went (WalksThere runner.old.machine.core.image runner.old.lines.refused (λ s. stays_at runner.old.machine.core.image until breakpoints.now s) runner.old.recent runner.new.recent) (Moving runner.old.machine.core.image runner.old.lines.refused) runner.old (W.out out.old) (W.out out.new) (W.failed out.new) result runner.new }
+    ensures went { (t : Typing) → IsStrongest runner.old.machine.core.image t → Went (WalksThere runner.old.machine.core.image runner.old.lines.refused (λ s. stays_at t runner.old.machine.core.image until.now breakpoints.now s) runner.old.recent runner.new.recent) (Moving runner.old.machine.core.image runner.old.lines.refused) runner.old (W.out out.old) (W.out out.new) (W.failed out.new) result runner.new }
 {
     loop {
         let progress = debug_step(runner, out)?;
@@ -98,7 +96,7 @@ pub fn walk<W: Sink>(
 pub fn walk_unless<W: Sink>(
     rests: bool,
     runner: &mut Runner,
-    until: Until,
+    until: &Until,
     breakpoints: &Breakpoints,
     out: &mut W,
 ) -> Option<Progress>
@@ -107,7 +105,7 @@ pub fn walk_unless<W: Sink>(
     requires running { rests ≡ false → progress runner.old.machine.core ≡ Running }
     ensures agree { AllAgree (λ l. l.ids) (λ l. (⟦<dyn Native as Native>⟧ l.native.vtable).owed l.native.value) runner.new.machine.natives.slots.items }
     ensures keeps { KeepsRunner runner.old runner.new }
-    ensures went { Went (WalksUnless rests runner.old.machine.core.image runner.old.lines.refused (λ s. stays_at runner.old.machine.core.image until breakpoints.now s) runner.old.recent runner.new.recent) (Moving runner.old.machine.core.image runner.old.lines.refused) runner.old (W.out out.old) (W.out out.new) (W.failed out.new) result runner.new }
+    ensures went { (t : Typing) → IsStrongest runner.old.machine.core.image t → Went (WalksUnless rests runner.old.machine.core.image runner.old.lines.refused (λ s. stays_at t runner.old.machine.core.image until.now breakpoints.now s) runner.old.recent runner.new.recent) (Moving runner.old.machine.core.image runner.old.lines.refused) runner.old (W.out out.old) (W.out out.new) (W.failed out.new) result runner.new }
 {
     if rests {
         return Some(runner.machine.core.progress());

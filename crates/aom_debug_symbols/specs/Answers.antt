@@ -4,6 +4,7 @@ use Rattle.std.specs.Fmt.{signed_decimal}
 use Rattle.aom_diagnostics.specs.Sources.{spaced}
 use Rattle.aom_text.specs.declared.text.Statement.{Statement}
 use Rattle.aom_debug_protocol.specs.Answers.{answer_text, phase_text}
+use Rattle.aom_debug_protocol.specs.Conditions.{condition_text}
 use Rattle.aom_debug_protocol.specs.declared.spot.CodeLocation.{CodeLocation}
 use Rattle.aom_debug_protocol.specs.declared.answer.Phase.{Phase}
 use Rattle.aom_debug_protocol.specs.declared.answer.Content.{Content}
@@ -13,7 +14,7 @@ use Rattle.aom_debug_protocol.specs.declared.answer.Source.TheVariants as source
 use Rattle.aom_debug_protocol.specs.declared.answer.Answer.{Answer}
 use Rattle.aom_debug_protocol.specs.declared.answer.Answer.TheVariants.{At, Fault, Gone, OfClass, Object, Operation, Active, Server, Timer, Break, Frame, Register, Ran}
 use Rattle.aom_debug_protocol.specs.declared.fault.DebugFault.{DebugFault}
-use Rattle.aom_debug_protocol.specs.declared.fault.DebugFault.TheVariants.{BadCommand, NoSuch, Ended, OutOfMemory, WriteFault}
+use Rattle.aom_debug_protocol.specs.declared.fault.DebugFault.TheVariants.{BadCommand, NoSuch, Ended, OutOfMemory, WriteFault, NotThere}
 use Rattle.aom_debug_symbols.specs.NameLists.{NameLists, class_by, has_text, method_by, statement_at}
 
 -- a method and a place
@@ -47,6 +48,7 @@ reason_text NoSuch = codes "no such place, line, file, breakpoint or object, or 
 reason_text Ended = codes "the run is over"
 reason_text OutOfMemory = codes "there is no memory"
 reason_text WriteFault = codes "the output takes no more"
+reason_text NotThere = codes "no such register or word here, no object there, or it is not set"
 
 -- a fault, and with a text its reason on a line of its own
 abbrev pub fault_by : Bool → DebugFault → List ℕ
@@ -63,7 +65,7 @@ head_by ns (Operation method word) = codes "op " ++ method_by ns method ++ codes
 head_by ns (Active class priority phase status) = active_by ns class priority phase status
 head_by ns (Server class priority queued) = server_by ns class priority queued
 head_by ns (Timer class due) = class_by ns class ++ codes " " ++ decimal due
-head_by ns (Break spot) = codes "break " ++ place_by ns spot
+head_by ns (Break b) = codes "break " ++ place_by ns b.spot ++ condition_text b.condition
 head_by ns (Frame spot) = place_by ns spot
 head_by ns (Register i content) = codes "r" ++ decimal i ++ content_by ns content
 head_by ns (Ran spot) = place_by ns spot

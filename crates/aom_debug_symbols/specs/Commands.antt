@@ -5,6 +5,9 @@ use Rattle.aom_text.specs.Words.{words}
 use Rattle.aom_text.specs.Numbers.{number_of, number_within}
 use Rattle.aom_text.specs.declared.number.Number.{Number}
 use Rattle.aom_debug_protocol.specs.Commands.{command_said}
+use Rattle.aom_debug_protocol.specs.Conditions.{comparison_said, condition_said}
+use Rattle.aom_debug_protocol.specs.declared.condition.Condition.{Condition}
+use Rattle.aom_debug_protocol.specs.declared.condition.Condition.TheVariants.{Always}
 use Rattle.aom_debug_protocol.specs.declared.command.Command.{Command}
 use Rattle.aom_debug_protocol.specs.declared.command.Command.TheVariants.{Until, Break, Unbreak}
 use Rattle.aom_debug_protocol.specs.Verbs.{verb_named}
@@ -20,12 +23,12 @@ use Rattle.aom_debug_symbols.specs.Lines.{spot_in}
 abbrev pub numbered : ℕ → Number
 numbered n = record { is_negative = false; size = n }
 
--- that command at a place; no other takes one
-abbrev pub mark_at : Verb → (method place : Number) → Option Command
-mark_at v.Break method place = Some (Break method place)
-mark_at v.Unbreak method place = Some (Unbreak method place)
-mark_at v.Until method place = Some (Until method place)
-mark_at verb method place = None
+-- that command at a place; no other takes one, and `break` alone takes a condition
+abbrev pub mark_at : Verb → (method place : Number) → Condition → Option Command
+mark_at v.Break method place condition = Some (Break method place condition)
+mark_at v.Unbreak method place Always = Some (Unbreak method place)
+mark_at v.Until method place Always = Some (Until method place)
+mark_at verb method place condition = None
 
 -- it is one of these, or none
 abbrev pub marked : Option Command → Result (Option Command) DebugFault
@@ -33,25 +36,25 @@ marked None = Err BadCommand
 marked (Some command) = Ok (Some command)
 
 -- at a place, if there is one
-abbrev pub mark_there : Verb → Option CodeLocation → Result (Option Command) DebugFault
-mark_there verb None = Err NoSuch
-mark_there verb (Some spot) = marked (mark_at verb (numbered spot.method) (numbered spot.place))
+abbrev pub mark_there : Verb → Condition → Option CodeLocation → Result (Option Command) DebugFault
+mark_there verb condition None = Err NoSuch
+mark_there verb condition (Some spot) = marked (mark_at verb (numbered spot.method) (numbered spot.place) condition)
 
 -- in a line, if that is the number of one
-abbrev pub mark_in : NameLists → Verb → Option ℕ → Result (Option Command) DebugFault
-mark_in ns verb None = Err NoSuch
-mark_in ns verb (Some line) = mark_there verb (spot_in ns.text line)
+abbrev pub mark_in : NameLists → Verb → Condition → Option ℕ → Result (Option Command) DebugFault
+mark_in ns verb condition None = Err NoSuch
+mark_in ns verb condition (Some line) = mark_there verb condition (spot_in ns.text line)
 
 -- ---- by two words
 
 -- a place of the method of that name; or where none has it, an instruction by its line
-abbrev pub mark_named : NameLists → Verb → List ℕ → Option ℕ → Number → Result (Option Command) DebugFault
-mark_named ns verb name (Some method) number = marked (mark_at verb (numbered method) number)
-mark_named ns verb name None number = if bytes_eq name (codes "line") then mark_in ns verb (number_within 1 1048576 number) else Err NoSuch
+abbrev pub mark_named : NameLists → Verb → Condition → List ℕ → Option ℕ → Number → Result (Option Command) DebugFault
+mark_named ns verb condition name (Some method) number = marked (mark_at verb (numbered method) number condition)
+mark_named ns verb condition name None number = if bytes_eq name (codes "line") then mark_in ns verb condition (number_within 1 1048576 number) else Err NoSuch
 
-abbrev pub mark_numbered : NameLists → Verb → List ℕ → Option Number → Result (Option Command) DebugFault
-mark_numbered ns verb name None = Err BadCommand
-mark_numbered ns verb name (Some number) = mark_named ns verb name (method_named ns name) number
+abbrev pub mark_numbered : NameLists → Verb → List ℕ → Option Number → Result Condition DebugFault → Result (Option Command) DebugFault
+mark_numbered ns verb name (Some number) (Ok condition) = mark_named ns verb condition name (method_named ns name) number
+mark_numbered ns verb name _ _ = Err BadCommand
 
 -- ---- by one word
 
@@ -69,14 +72,19 @@ abbrev pub line_said : (file word : List ℕ) → Option Number → Option Numbe
 line_said file word (Some number) = Some number
 line_said file word None = line_of_file file word
 
-abbrev pub mark_line : NameLists → Verb → Option Number → Result (Option Command) DebugFault
-mark_line ns verb None = Err NoSuch
-mark_line ns verb (Some number) = mark_in ns verb (number_within 1 1048576 number)
+abbrev pub mark_line : NameLists → Verb → Condition → Option Number → Result (Option Command) DebugFault
+mark_line ns verb condition None = Err NoSuch
+mark_line ns verb condition (Some number) = mark_in ns verb condition (number_within 1 1048576 number)
 
 -- the first place of the method of that name; or where none has it, an instruction by its line
-abbrev pub mark_first : NameLists → Verb → List ℕ → Option ℕ → Result (Option Command) DebugFault
-mark_first ns verb word (Some method) = marked (mark_at verb (numbered method) (numbered 0))
-mark_first ns verb word None = mark_line ns verb (line_said ns.file word (number_of word))
+abbrev pub mark_first : NameLists → Verb → Condition → List ℕ → Option ℕ → Result (Option Command) DebugFault
+mark_first ns verb condition word (Some method) = marked (mark_at verb (numbered method) (numbered 0) condition)
+mark_first ns verb condition word None = mark_line ns verb condition (line_said ns.file word (number_of word))
+
+-- under a condition, if it is one
+abbrev pub mark_where : NameLists → Verb → List ℕ → Option Condition → Result (Option Command) DebugFault
+mark_where ns verb word None = Err BadCommand
+mark_where ns verb word (Some condition) = mark_first ns verb condition word (method_named ns word)
 
 -- ---- by words
 
@@ -87,11 +95,12 @@ is_mark v.Unbreak = true
 is_mark v.Until = true
 is_mark verb = false
 
--- `break NAME PLACE`, `break line LINE`, `break NAME`, `break LINE`, `break FILE:LINE`, and so of the other two
+-- `break NAME PLACE`, `break line LINE`, `break NAME`, `break LINE`, `break FILE:LINE`, each with a condition behind it or without, and so of the other two without
 abbrev pub mark_words : NameLists → Verb → List (List ℕ) → Result (Option Command) DebugFault
-mark_words ns verb (word ∷ []) = mark_first ns verb word (method_named ns word)
-mark_words ns verb (name ∷ number ∷ []) = mark_numbered ns verb name (number_of number)
-mark_words ns verb others = Err BadCommand
+mark_words ns verb [] = Err BadCommand
+mark_words ns verb (word ∷ []) = mark_first ns verb Always word (method_named ns word)
+mark_words ns verb (word ∷ second ∷ others) =
+    if bytes_eq second (codes "if") then mark_where ns verb word (comparison_said others) else mark_numbered ns verb word (number_of second) (condition_said others)
 
 abbrev pub mark_by : NameLists → Option Verb → List (List ℕ) → Result (Option Command) DebugFault
 mark_by ns None others = Err BadCommand

@@ -2,12 +2,15 @@
 ghost use Rattle.std.specs.Prelude.{◌≡◌, ◌+◌, ◌≤◌, [], ◌++◌, IfNone, IfSome, codes, decimal, false, length};
 ghost use Rattle.std.specs.Fmt.{signed_decimal};
 ghost use Rattle.aom_debug_protocol.specs.Answers.{answer_text};
+ghost use Rattle.aom_debug_protocol.specs.Conditions.{condition_text};
 ghost use Rattle.aom_debug_protocol.specs.declared.answer.Answer.TheVariants.{Fault};
 ghost use Rattle.aom_debug_symbols.specs.NameLists.{class_by, method_by};
 ghost use Rattle.aom_debug_symbols.specs.Answers.{active_by, answer_by, content_by, head_by, place_by, reason_text, server_by, observer_by, shown_at, shown_spot as spot_shown, reports_class};
 
 use crate::SourceNames;
-use aom_debug_protocol::{Answer, CodeLocation, Content, DebugFault, Phase, Source};
+use aom_debug_protocol::{
+    Answer, Breakpoint, CodeLocation, Content, DebugFault, Phase, Source, add_condition,
+};
 use aom_text::Statement;
 use aom_transcript::Text;
 
@@ -43,8 +46,9 @@ fn add_method_name(line: &mut NamedLine, names: &SourceNames, method: u16)
 
 /// Adds a method and a place.
 fn add_place(line: &mut NamedLine, names: &SourceNames, spot: CodeLocation)
-    requires { length line.old ≤ 64 }
+    requires { length line.old ≤ 16 }
     ensures text { line.new ≡ line.old ++ place_by names.now spot }
+    ensures short { length line.new ≤ length line.old + 53 }
 {
     add_method_name(line, names, spot.method);
     line.add_count(b" ", spot.place);
@@ -145,8 +149,18 @@ fn add_at(line: &mut NamedLine, names: &SourceNames, words: &[u8], spot: CodeLoc
     add_place(line, names, spot);
 }
 
-/// What the line of an answer begins with that tells a class.
-fn classed_line(names: &SourceNames, answer: Answer) -> Option<NamedLine>
+/// Adds a breakpoint, as the command that sets it.
+fn add_break(line: &mut NamedLine, names: &SourceNames, breakpoint: Breakpoint)
+    requires { line.old ≡ [] }
+    ensures { line.new ≡ codes "break " ++ place_by names.now breakpoint.spot ++ condition_text breakpoint.condition }
+{
+    line.add(b"break ");
+    add_place(line, names, breakpoint.spot);
+    add_condition(line, breakpoint.condition);
+}
+
+/// What the line of an answer is that tells a class.
+pub fn classed_line(names: &SourceNames, answer: Answer) -> Option<NamedLine>
     ensures some { IfSome result (λ line. line ≡ head_by names.now answer) }
     ensures none { IfNone result (reports_class answer ≡ false) }
 {
@@ -186,6 +200,9 @@ fn reason(fault: DebugFault) -> &'static [u8]
         DebugFault::Ended => b"\n# the run is over".as_slice(),
         DebugFault::OutOfMemory => b"\n# there is no memory".as_slice(),
         DebugFault::WriteFault => b"\n# the output takes no more".as_slice(),
+        DebugFault::NotThere => {
+            b"\n# no such register or word here, no object there, or it is not set".as_slice()
+        }
     }
 }
 
@@ -211,7 +228,7 @@ pub fn named_line(names: &SourceNames, answer: Answer) -> Option<NamedLine>
     let mut line = NamedLine::new();
     match answer {
         Answer::At(spot) => add_at(&mut line, names, b"at ", spot),
-        Answer::Break(spot) => add_at(&mut line, names, b"break ", spot),
+        Answer::Break(breakpoint) => add_break(&mut line, names, breakpoint),
         Answer::Frame(spot) | Answer::Ran(spot) => add_place(&mut line, names, spot),
         Answer::Operation(method, word) => add_operation(&mut line, names, method, word),
         Answer::Fault(fault) => return fault_line(names, fault),

@@ -2,13 +2,14 @@
 ghost use Rattle.std.specs.Prelude.{◌≡◌, ℕ, List, []};
 ghost use Rattle.aom_text.specs.Numbers.{number_of};
 ghost use Rattle.aom_debug_protocol.specs.Lines.{pending_of};
-ghost use Rattle.aom_debug_symbols.specs.Commands.{behind_colon, command_by, is_mark, line_of_file, line_said, mark_at, mark_by, mark_first, mark_in, mark_line, mark_named, mark_numbered, mark_said, mark_there, mark_words, marked, numbered, or_named};
+ghost use Rattle.aom_debug_symbols.specs.Commands.{behind_colon, command_by, is_mark, line_of_file, line_said, mark_at, mark_by, mark_first, mark_in, mark_line, mark_named, mark_numbered, mark_said, mark_there, mark_where, mark_words, marked, numbered, or_named};
 ghost use Rattle.aom_debug_symbols.specs.NameLists.{method_named};
 ghost use Rattle.aom_debug_protocol.specs.Commands.{command_said};
 
 use crate::SourceNames;
 use aom_debug_protocol::{
-    CodeLocation, Command, DebugFault, Pending, Verb, read_command, verb_named,
+    CodeLocation, Command, Condition, DebugFault, Pending, Verb, read_command, read_comparison,
+    read_condition, verb_named,
 };
 use aom_text::{Number, WordCursor};
 
@@ -28,27 +29,37 @@ fn numbered(number: usize) -> Number
     }
 }
 
-/// That command at a place. No other takes one.
-fn mark_at(verb: Verb, method: Number, place: Number) -> Result<Option<Command>, DebugFault>
-    ensures { result ≡ marked (mark_at verb method place) }
+/// That command at a place. No other takes one, and `break` alone takes a condition.
+fn mark_at(
+    verb: Verb,
+    method: Number,
+    place: Number,
+    condition: Condition,
+) -> Result<Option<Command>, DebugFault>
+    ensures { result ≡ marked (mark_at verb method place condition) }
 {
-    match verb {
-        Verb::Break => Ok(Some(Command::Break(method, place))),
-        Verb::Unbreak => Ok(Some(Command::Unbreak(method, place))),
-        Verb::Until => Ok(Some(Command::Until(method, place))),
+    match (verb, condition) {
+        (Verb::Break, condition) => Ok(Some(Command::Break(method, place, condition))),
+        (Verb::Unbreak, Condition::Always) => Ok(Some(Command::Unbreak(method, place))),
+        (Verb::Until, Condition::Always) => Ok(Some(Command::Until(method, place))),
         _ => Err(DebugFault::BadCommand),
     }
 }
 
 /// At a place, if there is one.
-fn mark_there(verb: Verb, spot: Option<CodeLocation>) -> Result<Option<Command>, DebugFault>
-    ensures { result ≡ mark_there verb spot }
+fn mark_there(
+    verb: Verb,
+    condition: Condition,
+    spot: Option<CodeLocation>,
+) -> Result<Option<Command>, DebugFault>
+    ensures { result ≡ mark_there verb condition spot }
 {
     match spot {
         Some(spot) => mark_at(
             verb,
             numbered(usize::from(spot.method)),
             numbered(spot.place),
+            condition,
         ),
         None => Err(DebugFault::NoSuch),
     }
@@ -58,12 +69,13 @@ fn mark_there(verb: Verb, spot: Option<CodeLocation>) -> Result<Option<Command>,
 fn mark_in(
     names: &SourceNames,
     verb: Verb,
+    condition: Condition,
     line: Option<u32>,
 ) -> Result<Option<Command>, DebugFault>
-    ensures { result ≡ mark_in names.now verb line }
+    ensures { result ≡ mark_in names.now verb condition line }
 {
     match line {
-        Some(line) => mark_there(verb, names.spot_in(line)),
+        Some(line) => mark_there(verb, condition, names.spot_in(line)),
         None => Err(DebugFault::NoSuch),
     }
 }
@@ -72,14 +84,17 @@ fn mark_in(
 fn mark_named(
     names: &SourceNames,
     verb: Verb,
+    condition: Condition,
     name: &[u8],
     number: Number,
 ) -> Result<Option<Command>, DebugFault>
-    ensures { result ≡ mark_named names.now verb name.now (method_named names.now name.now) number }
+    ensures { result ≡ mark_named names.now verb condition name.now (method_named names.now name.now) number }
 {
     match names.method_named(name) {
-        Some(method) => mark_at(verb, numbered(method), number),
-        None if name == b"line".as_slice() => mark_in(names, verb, number.within(1, MAX_LINES)),
+        Some(method) => mark_at(verb, numbered(method), number, condition),
+        None if name == b"line".as_slice() => {
+            mark_in(names, verb, condition, number.within(1, MAX_LINES))
+        }
         None => Err(DebugFault::NoSuch),
     }
 }
@@ -89,12 +104,13 @@ fn mark_numbered(
     verb: Verb,
     name: &[u8],
     number: &[u8],
+    condition: Result<Condition, DebugFault>,
 ) -> Result<Option<Command>, DebugFault>
-    ensures { result ≡ mark_numbered names.now verb name.now (number_of number.now) }
+    ensures { result ≡ mark_numbered names.now verb name.now (number_of number.now) condition }
 {
-    match Number::of(number) {
-        Some(number) => mark_named(names, verb, name, number),
-        None => Err(DebugFault::BadCommand),
+    match (Number::of(number), condition) {
+        (Some(number), Ok(condition)) => mark_named(names, verb, condition, name, number),
+        _ => Err(DebugFault::BadCommand),
     }
 }
 
@@ -129,25 +145,46 @@ fn line_said(file: &[u8], word: &[u8]) -> Option<Number>
 }
 
 /// At the first place of the method of that name; or where none has it, at an instruction by its line.
-fn mark_first(names: &SourceNames, verb: Verb, word: &[u8]) -> Result<Option<Command>, DebugFault>
-    ensures { result ≡ mark_first names.now verb word.now (method_named names.now word.now) }
+fn mark_first(
+    names: &SourceNames,
+    verb: Verb,
+    condition: Condition,
+    word: &[u8],
+) -> Result<Option<Command>, DebugFault>
+    ensures { result ≡ mark_first names.now verb condition word.now (method_named names.now word.now) }
 {
     match names.method_named(word) {
-        Some(method) => mark_at(verb, numbered(method), numbered(0)),
-        None => mark_line(names, verb, line_said(names.file(), word)),
+        Some(method) => mark_at(verb, numbered(method), numbered(0), condition),
+        None => mark_line(names, verb, condition, line_said(names.file(), word)),
     }
 }
 
 fn mark_line(
     names: &SourceNames,
     verb: Verb,
+    condition: Condition,
     number: Option<Number>,
 ) -> Result<Option<Command>, DebugFault>
-    ensures { result ≡ mark_line names.now verb number }
+    ensures { result ≡ mark_line names.now verb condition number }
 {
     match number {
-        Some(number) => mark_in(names, verb, number.within(1, MAX_LINES)),
+        Some(number) => mark_in(names, verb, condition, number.within(1, MAX_LINES)),
         None => Err(DebugFault::NoSuch),
+    }
+}
+
+/// So under a condition, if it is one.
+fn mark_where(
+    names: &SourceNames,
+    verb: Verb,
+    word: &[u8],
+    condition: Option<Condition>,
+) -> Result<Option<Command>, DebugFault>
+    ensures { result ≡ mark_where names.now verb word.now condition }
+{
+    match condition {
+        Some(condition) => mark_first(names, verb, condition, word),
+        None => Err(DebugFault::BadCommand),
     }
 }
 
@@ -167,9 +204,12 @@ fn mark_words(
     ensures { result ≡ mark_words names.now verb words.entry }
 {
     match (words.next(), words.next()) {
-        (Some(word), None) => mark_first(names, verb, word),
-        (Some(name), Some(number)) if words.is_empty() => {
-            mark_numbered(names, verb, name, number)
+        (Some(word), None) => mark_first(names, verb, Condition::Always, word),
+        (Some(word), Some(second)) if second == b"if".as_slice() => {
+            mark_where(names, verb, word, read_comparison(words))
+        }
+        (Some(name), Some(number)) => {
+            mark_numbered(names, verb, name, number, read_condition(words))
         }
         _ => Err(DebugFault::BadCommand),
     }

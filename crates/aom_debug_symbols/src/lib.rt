@@ -12,7 +12,7 @@ mod laws;
 mod lines;
 mod names;
 
-pub use answer::{NamedLine, add_class_name, named_line, shown_statement};
+pub use answer::{NamedLine, add_class_name, classed_line, named_line, shown_statement};
 pub use command::{read_named, take_named};
 pub use laws::{finds_each_line, found_in_its_line, no_text_is_as_ever};
 pub use names::SourceNames;

@@ -130,7 +130,8 @@ impl<'a> SourceNames<'a> {
         self.file
     }
 
-    pub(crate) fn has_text(&self) -> bool
+    /// Whether there is a text.
+    pub fn has_text(&self) -> bool
         ensures { result ≡ has_text self.now }
     {
         !self.methods.is_empty()

@@ -32,7 +32,7 @@ use Rattle.aom_debug_protocol.specs.declared.answer.Source.{Source}
 use Rattle.aom_debug_protocol.specs.declared.answer.Content.{Content}
 use Rattle.aom_debug_protocol.specs.declared.answer.Content.TheVariants as contents
 use Rattle.aom_debug_symbols.specs.NameLists.{NameLists}
-use Rattle.aom_debug_views.specs.Frames.{RegisterShows, ShowsFrame, content_by, frame_answers, frame_lines, kind_in, kinds_of, loop_answer, loop_in}
+use Rattle.aom_debug_views.specs.Frames.{RegisterShows, ShowsFrame, content_by, frame_answers, frame_lines, kind_in, kinds_of, loop_answer, loop_in, receiver_over}
 use Rattle.aom_debug_views.specs.Frames.{owned_content, place_in, register_in, trap_by, trap_held, trap_in, trap_under}
 use Rattle.aom_debug_views.specs.Owners.{Shows, ShowsIf, is_frame, may_own, source_at}
 use Rattle.aom_debug_views.specs.CellViews.{class_of}
@@ -208,3 +208,26 @@ typed_lines ns p m f sh depth shown method shape t strongest s st =
     let there = sym kind.1 ∙ ap (λ n. shape_at t n f.place) fr.2.method ∙ ap (λ n. shape_at t fr.0.method n) fr.2.place in
     ap (answers_by ns) (same_lines (λ i. register sh i) (λ i. kinds_of t (over s.tasks depth) i)
     (λ i. sym (kind.2 i) ∙ ap (λ x. kind_in x i) there ∙ sym (ap (λ o. kinds_of t o i) fr.1)) s depth (over s.tasks depth))
+
+-- a register alone
+same_answer : (kinds others : ℕ → Kind) → ((i : ℕ) → kinds i ≡ others i) → (cs : List Cell) (depth : ℕ) (o : Option Task) (i : ℕ) →
+    register_in kinds cs depth o i ≡ register_in others cs depth o i
+same_answer kinds others same cs depth x i = grind arith
+
+pub typed_register : (p : Image) (m : Parts) (f : Machine_frame) (sh : AbstractState) (depth : ℕ) → ShowsFrame (record { image = p; parts = m }) sh f depth →
+    IsSome (method_at p f.method) → IsShapeAt p f.method f.place (Some sh) → (t : Typing) → IsStrongest p t → (s : State) →
+    Refines (record { image = p; parts = m }) s → (i : ℕ) → register_in (λ k. register sh k) s.cells depth (over s.tasks depth) i
+    ≡ register_in (λ k. kinds_of t (over s.tasks depth) k) s.cells depth (over s.tasks depth) i
+typed_register p m f sh depth shown method shape t strongest s st i =
+    let fr = shown.there s st in
+    let kind = kind_there p t strongest f.method f.place method sh shape in
+    let there = sym kind.1 ∙ ap (λ n. shape_at t n f.place) fr.2.method ∙ ap (λ n. shape_at t fr.0.method n) fr.2.place in
+    same_answer (λ k. register sh k) (λ k. kinds_of t (over s.tasks depth) k)
+    (λ k. sym (kind.2 k) ∙ ap (λ x. kind_in x k) there ∙ sym (ap (λ o. kinds_of t o k) fr.1)) s.cells depth (over s.tasks depth) i
+
+-- what is no frame has no register, and works on nothing
+pub no_register : (kinds : ℕ → Kind) (cs : List Cell) (depth : ℕ) (o : Option Task) (i : ℕ) → is_frame o ≡ false → register_in kinds cs depth o i ≡ None
+no_register kinds cs depth x i none = grind arith
+
+pub no_receiver : (o : Option Task) → is_frame o ≡ false → null ≡ receiver_over o
+no_receiver x none = grind arith

@@ -17,11 +17,11 @@ use Rattle.aom_machine_state.specs.declared.parts.Parts.{Parts}
 use Rattle.aom_machine_state.specs.Stands.{MachineModel, Refines}
 use Rattle.aom_transcript.specs.Sinks.{after}
 use Rattle.aom_debug_protocol.specs.declared.fault.DebugFault.{DebugFault}
-use Rattle.aom_debug_protocol.specs.declared.answer.Answer.{Answer}
 use Rattle.aom_debug_protocol.specs.declared.answer.Answer.TheVariants.{Timer as Timer_answer}
 use Rattle.aom_debug_symbols.specs.NameLists.{NameLists}
-use Rattle.aom_debug_views.specs.Reporting.{Reports, ReportsPart, answers_by, gathered, listed}
-use Rattle.aom_debug_views.specs.Timers.{InOrderOfTime, ReportsTimers, ReportsTimersPart, timer_answer, timer_answers, timer_at, timer_of}
+use Rattle.aom_debug_views.specs.Reporting.{Reports, ReportsPart, gathered}
+use Rattle.aom_debug_views.specs.Seeking.{Placed, placed_by}
+use Rattle.aom_debug_views.specs.Timers.{InOrderOfTime, ReportsTimers, ReportsTimersPart, timer_answer, timer_of, timer_placed, timers_placed}
 use Rattle.aom_debug_views.proofs.Enlisted.{pairs_by}
 use Rattle.aom_debug_views.proofs.Showing.{class_named}
 use Rattle.aom_debug_views.proofs.Reporting.{gathered_items}
@@ -66,21 +66,21 @@ module _ (m : MachineModel) (each : All (λ t. due_of t.id m.parts.active.pendin
   }
 
   -- what is told of the first so many
-  abbrev pub reported_to : State → ℕ → List Answer
-  reported_to s n = gathered (λ k. listed (timer_at s.cells (slice_get (names_of m.parts) k))) n
+  abbrev pub reported_to : NameLists → State → ℕ → List Placed
+  reported_to ns s n = gathered (λ k. timer_placed ns s (slice_get (names_of m.parts) k)) n
 
-  all_reported : (s : State) → reported_to s (length (names_of m.parts)) ≡ timer_answers s.cells (names_of m.parts)
-  all_reported s = gathered_items (λ o. listed (timer_at s.cells o)) (names_of m.parts)
+  all_reported : (ns : NameLists) (s : State) → reported_to ns s (length (names_of m.parts)) ≡ timers_placed ns s (names_of m.parts)
+  all_reported ns s = gathered_items (λ o. timer_placed ns s o) (names_of m.parts)
 
-  pub timers_reported : (ns : NameLists) (before now : Option (List ℕ)) → Reports m (λ s. answers_by ns (reported_to s (length (names_of m.parts)))) before now →
+  pub timers_reported : (ns : NameLists) (before now : Option (List ℕ)) → Reports m (λ s. placed_by ns (reported_to ns s (length (names_of m.parts)))) before now →
       ReportsTimers ns m before now
-  timers_reported ns before now all = record { order = in_order; out = λ s st. all.out s st ∙ ap (λ xs. after before (answers_by ns xs)) (all_reported s) }
+  timers_reported ns before now all = record { order = in_order; out = λ s st. all.out s st ∙ ap (λ xs. after before (placed_by ns xs)) (all_reported ns s) }
 
   pub timers_cut : (ns : NameLists) (fault : DebugFault) (failed : Bool) (before now : Option (List ℕ)) →
-      ReportsPart m (λ s. answers_by ns (reported_to s (length (names_of m.parts)))) fault failed before now → ReportsTimersPart ns m fault failed before now
+      ReportsPart m (λ s. placed_by ns (reported_to ns s (length (names_of m.parts)))) fault failed before now → ReportsTimersPart ns m fault failed before now
   timers_cut ns fault failed before now cut = record {
     reported = cut.reported;
     fails = cut.fails;
     order = in_order;
-    out = λ s st. let o = cut.out s st in (o.0, o.1 ∙ ap (λ xs. after before (take o.0 (answers_by ns xs))) (all_reported s));
+    out = λ s st. let o = cut.out s st in (o.0, o.1 ∙ ap (λ xs. after before (take o.0 (placed_by ns xs))) (all_reported ns s));
   }

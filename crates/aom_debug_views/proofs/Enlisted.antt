@@ -24,12 +24,12 @@ use Rattle.aom_machine_state.specs.declared.parts.Parts.{Parts}
 use Rattle.aom_machine_state.specs.Stands.{MachineModel, Refines}
 use Rattle.aom_transcript.specs.Sinks.{after}
 use Rattle.aom_debug_protocol.specs.declared.fault.DebugFault.{DebugFault}
-use Rattle.aom_debug_protocol.specs.declared.answer.Answer.{Answer}
 use Rattle.aom_debug_protocol.specs.declared.answer.Answer.TheVariants.{Active, Server}
 use Rattle.aom_debug_symbols.specs.NameLists.{NameLists}
-use Rattle.aom_debug_views.specs.Actives.{InOrderOfChoice, ReportsActives, ReportsActivesPart, active_answer, active_answers, active_at, active_of, serves}
+use Rattle.aom_debug_views.specs.Actives.{InOrderOfChoice, ReportsActives, ReportsActivesPart, active_answer, active_of, active_placed, actives_placed, serves}
 use Rattle.aom_debug_views.specs.Actives.{shown_phase}
-use Rattle.aom_debug_views.specs.Reporting.{Reports, ReportsPart, answers_by, gathered, listed}
+use Rattle.aom_debug_views.specs.Reporting.{Reports, ReportsPart, gathered}
+use Rattle.aom_debug_views.specs.Seeking.{Placed, placed_by}
 use Rattle.aom_debug_views.proofs.Showing.{class_named}
 use Rattle.aom_debug_views.proofs.Reporting.{gathered_items}
 
@@ -135,21 +135,21 @@ module _ (m : MachineModel) (whole : IsListed m.parts) where
   }
 
   -- what is told of the first so many
-  abbrev pub reported_to : State → ℕ → List Answer
-  reported_to s n = gathered (λ k. listed (active_at m.image s.cells (slice_get (names_of m.parts) k))) n
+  abbrev pub reported_to : NameLists → State → ℕ → List Placed
+  reported_to ns s n = gathered (λ k. active_placed ns m.image s (slice_get (names_of m.parts) k)) n
 
-  all_reported : (s : State) → reported_to s (length (names_of m.parts)) ≡ active_answers m.image s.cells (names_of m.parts)
-  all_reported s = gathered_items (λ o. listed (active_at m.image s.cells o)) (names_of m.parts)
+  all_reported : (ns : NameLists) (s : State) → reported_to ns s (length (names_of m.parts)) ≡ actives_placed ns m.image s (names_of m.parts)
+  all_reported ns s = gathered_items (λ o. active_placed ns m.image s o) (names_of m.parts)
 
-  pub actives_reported : (ns : NameLists) (before now : Option (List ℕ)) → Reports m (λ s. answers_by ns (reported_to s (length (names_of m.parts)))) before now →
+  pub actives_reported : (ns : NameLists) (before now : Option (List ℕ)) → Reports m (λ s. placed_by ns (reported_to ns s (length (names_of m.parts)))) before now →
       ReportsActives ns m before now
-  actives_reported ns before now all = record { order = in_order; out = λ s st. all.out s st ∙ ap (λ xs. after before (answers_by ns xs)) (all_reported s) }
+  actives_reported ns before now all = record { order = in_order; out = λ s st. all.out s st ∙ ap (λ xs. after before (placed_by ns xs)) (all_reported ns s) }
 
   pub actives_cut : (ns : NameLists) (fault : DebugFault) (failed : Bool) (before now : Option (List ℕ)) →
-      ReportsPart m (λ s. answers_by ns (reported_to s (length (names_of m.parts)))) fault failed before now → ReportsActivesPart ns m fault failed before now
+      ReportsPart m (λ s. placed_by ns (reported_to ns s (length (names_of m.parts)))) fault failed before now → ReportsActivesPart ns m fault failed before now
   actives_cut ns fault failed before now cut = record {
     reported = cut.reported;
     fails = cut.fails;
     order = in_order;
-    out = λ s st. let sent = cut.out s st in (sent.0, sent.1 ∙ ap (λ xs. after before (take sent.0 (answers_by ns xs))) (all_reported s));
+    out = λ s st. let sent = cut.out s st in (sent.0, sent.1 ∙ ap (λ xs. after before (take sent.0 (placed_by ns xs))) (all_reported ns s));
   }

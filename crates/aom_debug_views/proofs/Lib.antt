@@ -1,6 +1,6 @@
 mod Over
 mod Reporting
-mod Series
+mod Hanging
 mod Showing
 mod Trees
 mod Enlisted
@@ -15,6 +15,9 @@ mod Words
 mod Contents
 mod Numbers
 mod Spaced
+mod SeriesPlaces
+mod Sought
+mod Texts
 pub mod DebugViewsLemmas
 pub use Rattle.aom_link_conditions.proofs.LinkConditionsLemmas
 pub use Rattle.aom_clients.proofs.ClientsLemmas

@@ -16,7 +16,7 @@ use Rattle.aom_debug_protocol.specs.declared.answer.Answer.TheVariants.{Active, 
 use Rattle.aom_debug_protocol.specs.declared.answer.Phase.{Phase as Shown_phase}
 use Rattle.aom_debug_protocol.specs.declared.answer.Phase.TheVariants as shown
 use Rattle.aom_debug_views.specs.CellViews.{class_of}
-use Rattle.aom_debug_views.specs.Reporting.{answers_by, listed}
+use Rattle.aom_debug_views.specs.Seeking.{Placed, path_at, placed, placed_by}
 
 -- one whose cancel is at hand is active
 abbrev pub shown_phase : Phase → Shown_phase
@@ -47,8 +47,12 @@ abbrev pub active_at : Image → List Cell → Option ℕ → Option Answer
 active_at p cs None = None
 active_at p cs (Some n) = active_answer p cs n
 
-abbrev pub active_answers : Image → List Cell → List ℕ → List Answer
-active_answers p cs names = flat_map (λ n. listed (active_answer p cs n)) names
+-- and its path, where there is a text
+abbrev pub active_placed : NameLists → Image → State → Option ℕ → List Placed
+active_placed ns p s o = placed (active_at p s.cells o) (path_at ns s o)
+
+abbrev pub actives_placed : NameLists → Image → State → List ℕ → List Placed
+actives_placed ns p s names = flat_map (λ n. active_placed ns p s (Some n)) names
 
 -- these are the names of all objects that are enlisted, and each goes before those behind it in the choice, so none stands twice
 pub record InOrderOfChoice (cs : List Cell) (names : List ℕ) : Type 0 where
@@ -63,11 +67,11 @@ on_list m = map (λ e. e.id) m.parts.active.priority_list.entries
 -- these are in the order of choice of each state that a machine stands for, and their lines are out
 pub record ReportsActives (ns : NameLists) (m : MachineModel) (before now : Option (List ℕ)) : Type 0 where
   pub order : (s : State) → Refines m s → InOrderOfChoice s.cells (on_list m)
-  pub out : (s : State) → Refines m s → now ≡ after before (answers_by ns (active_answers m.image s.cells (on_list m)))
+  pub out : (s : State) → Refines m s → now ≡ after before (placed_by ns (actives_placed ns m.image s (on_list m)))
 
 -- or a beginning of them, since the sink failed, and the fault says so
 pub record ReportsActivesPart (ns : NameLists) (m : MachineModel) (fault : DebugFault) (failed : Bool) (before now : Option (List ℕ)) : Type 0 where
   pub reported : fault ≡ WriteFault
   pub fails : failed ≡ true
   pub order : (s : State) → Refines m s → InOrderOfChoice s.cells (on_list m)
-  pub out : (s : State) → Refines m s → (sent : ℕ) × (now ≡ after before (take sent (answers_by ns (active_answers m.image s.cells (on_list m)))))
+  pub out : (s : State) → Refines m s → (sent : ℕ) × (now ≡ after before (take sent (placed_by ns (actives_placed ns m.image s (on_list m)))))

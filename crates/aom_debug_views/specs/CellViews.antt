@@ -13,6 +13,7 @@ use Rattle.aom_semantics.specs.Owned.{over}
 use Rattle.aom_semantics.specs.Places.{Cell, Entry, Object, count_cells, held}
 use Rattle.aom_semantics.specs.State.{A_mark, An_object, An_operation, Item, State}
 use Rattle.aom_debug_protocol.specs.declared.spot.CodeLocation.{CodeLocation}
+use Rattle.aom_debug_protocol.specs.declared.breakpoints.Breakpoint.{Breakpoint}
 use Rattle.aom_debug_protocol.specs.declared.answer.Answer.{Answer}
 use Rattle.aom_debug_protocol.specs.declared.answer.Answer.TheVariants.{Break, Cells, Clock, OfClass, Object as Object_answer, Operation, Ran, Trap}
 use Rattle.aom_debug_views.specs.Reporting.{gathered, listed}
@@ -40,8 +41,8 @@ recent_answers spots = map (λ spot. Ran spot) spots
 
 -- ---- the breakpoints
 
-abbrev pub breaks_answers : List CodeLocation → List Answer
-breaks_answers spots = map (λ spot. Break spot) spots
+abbrev pub breaks_answers : List Breakpoint → List Answer
+breaks_answers bs = map (λ b. Break b) bs
 
 -- ---- the time
 

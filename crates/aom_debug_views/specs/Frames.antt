@@ -1,5 +1,5 @@
 -- What a debugger tells of the methods at hand: where each stands, its registers and its loops, and whether a trap called it.
-use Rattle.std.specs.Prelude.{◌≡◌, ℕ, zero, suc, ℤ, List, ◌++◌, length, Option, Some, None, option_map, slice_index_or}
+use Rattle.std.specs.Prelude.{◌≡◌, ℕ, ◌-◌, zero, suc, ℤ, List, ◌++◌, length, Option, Some, None, option_map, slice_index_or}
 use Rattle.std.specs.Int.{w32, cast_signed}
 use Rattle.aom_image.specs.declared.method.Thing.{Thing}
 use Rattle.aom_image.specs.declared.method.Thing.TheVariants.{Object as An_object_of, Message}
@@ -15,7 +15,7 @@ use Rattle.aom_typing_rules.specs.Typing.{Typing, shape_at}
 use Rattle.aom_semantics.specs.Owned.{over}
 use Rattle.aom_semantics.specs.Places.{Cell, Object, Register, held, service_of}
 use Rattle.aom_semantics.specs.State.{Frame, Run, State, Task, Trapped, counter, word}
-use Rattle.aom_machine_state.specs.Agrees.{SameFrame}
+use Rattle.aom_machine_state.specs.Agrees.{SameFrame, receiver_number}
 use Rattle.aom_machine_state.specs.Stands.{MachineModel, Refines}
 use Rattle.aom_debug_protocol.specs.declared.answer.Answer.{Answer}
 use Rattle.aom_debug_protocol.specs.declared.answer.Answer.TheVariants.{Frame as A_frame, Loop, Register as A_register, Trap}
@@ -23,7 +23,9 @@ use Rattle.aom_debug_protocol.specs.declared.answer.Source.{Source}
 use Rattle.aom_debug_protocol.specs.declared.answer.Content.{Content}
 use Rattle.aom_debug_protocol.specs.declared.answer.Content.TheVariants as contents
 use Rattle.aom_debug_views.specs.Owners.{Shows, ShowsNone, source_in}
-use Rattle.aom_debug_views.specs.Reporting.{gathered, listed}
+use Rattle.aom_debug_symbols.specs.NameLists.{NameLists}
+use Rattle.aom_debug_views.specs.Seeking.{on_text, path_text}
+use Rattle.aom_debug_views.specs.Reporting.{answers_by, gathered, listed}
 
 -- ---- registers
 
@@ -104,9 +106,30 @@ kinds_of t _ i = Unset
 abbrev pub frame_answers : Typing → State → ℕ → List Answer
 frame_answers t s depth = frame_lines (λ i. kinds_of t (over s.tasks depth) i) s depth (over s.tasks depth)
 
+-- the number of the cell that it works on
+abbrev pub receiver_over : Option Task → ℕ
+receiver_over (Some (Run fr)) = receiver_number fr.receiver
+receiver_over _ = null
+
+-- the path of that, where there is a text
+abbrev pub receiver_text : NameLists → State → Option Task → List ℕ
+receiver_text ns s o = on_text (path_text ns s (receiver_over o))
+
+abbrev pub frame_text : NameLists → Typing → State → ℕ → List ℕ
+frame_text ns t s depth = answers_by ns (frame_answers t s depth) ++ receiver_text ns s (over s.tasks depth)
+
 -- the outermost first, by a typing
-abbrev pub frames_answers : Typing → State → List Answer
-frames_answers t s = gathered (frame_answers t s) (length s.tasks)
+abbrev pub frames_text : NameLists → Typing → State → List ℕ
+frames_text ns t s = gathered (frame_text ns t s) (length s.tasks)
+
+-- ---- a register of the innermost method
+
+-- how many tasks the innermost stands over
+abbrev pub innermost : State → ℕ
+innermost s = length s.tasks - 1
+
+abbrev pub register_shown : Typing → State → ℕ → Option Answer
+register_shown t s i = register_in (λ k. kinds_of t (over s.tasks (innermost s)) k) s.cells (innermost s) (over s.tasks (innermost s)) i
 
 -- ---- what a machine shows of it
 

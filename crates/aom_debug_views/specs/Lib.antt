@@ -3,6 +3,8 @@ pub mod CellViews
 pub mod Actives
 pub mod Timers
 pub mod Owners
+pub mod SeriesMaps
+pub mod Seeking
 pub mod Holdings
 pub mod Laws
 pub mod Frames

@@ -12,10 +12,10 @@ use aom_transcript::Sink;
 
 /// The breakpoint at an index, in the order in which they were set, as it is told.
 fn break_answer(breakpoints: &Breakpoints, index: usize) -> Option<Answer>
-    ensures { result ≡ option_map (λ spot. Break spot) (slice_get breakpoints.now index) }
+    ensures { result ≡ option_map (λ b. Break b) (slice_get breakpoints.now index) }
 {
     match breakpoints.at(index) {
-        Some(spot) => Some(Answer::Break(spot)),
+        Some(breakpoint) => Some(Answer::Break(breakpoint)),
         None => None,
     }
 }

@@ -13,12 +13,13 @@ ghost use Rattle.aom_semantics.specs.Owned.{over};
 ghost use Rattle.aom_semantics.specs.Places.{Place, Register, held};
 ghost use Rattle.aom_semantics.specs.State.{Frame as FrameRecord, Run, State, word};
 ghost use Rattle.aom_debug_protocol.specs.declared.answer.Content.TheVariants.{Message, Word};
-ghost use Rattle.aom_debug_views.specs.Frames.{RegisterShows, ShowsFrame, content_by, frame_answers, frame_lines, frames_answers, loop_answer, loops_in, owned_content, register_in, registers_in, place_in, trap_held, trap_in, trap_under};
+ghost use Rattle.aom_debug_views.specs.Frames.{RegisterShows, ShowsFrame, content_by, frame_answers, frame_lines, frame_text, frames_text, kinds_of, loop_answer, loops_in, owned_content, receiver_over, receiver_text, register_in, register_shown, registers_in, place_in, trap_held, trap_in, trap_under};
 ghost use Rattle.aom_debug_views.specs.Owners.{Shows, source_at};
 ghost use Rattle.aom_debug_views.specs.Reporting.{Reports, ReportsPart, answers_by, listed};
 
 use crate::cleanup::class_of;
 use crate::owners::frame_at;
+use crate::placed::{path_by, report_on};
 use crate::sending::report_any_by;
 use crate::tree::source_at;
 use aom_abstract_state::{AbstractState, Kind};
@@ -219,8 +220,52 @@ fn report_method<W: Sink>(
     }
 }
 
+/// The number of the cell that the method works on which is the task over so many others, and null where it works on none.
+pub fn receiver_at(parts: &Parts, depth: usize) -> u32
+    ensures { (p : Image) (s : State) → Refines (record { image = p; parts = parts.now }) s → result ≡ receiver_over (over s.tasks depth) }
+{
+    match frame_at(parts, depth) {
+        Some(frame) => frame.this,
+        None => NULL,
+    }
+}
+
+/// Tells the path of the object that a method at a depth works on, where there is a text.
+fn report_receiver<W: Sink>(
+    parts: &Parts,
+    accepted: &Accepted,
+    depth: usize,
+    names: &SourceNames,
+    out: &mut W,
+) -> Result<(), DebugFault>
+    requires stands { Stands (record { image = accepted.now; parts = parts.now }) }
+    requires agrees { AgreesInAll (record { image = accepted.now; parts = parts.now }) }
+    ensures ok { IfOk result (λ _. Reports (record { image = accepted.now; parts = parts.now }) (λ s. receiver_text names.now s (over s.tasks depth)) (W.out out.old) (W.out out.new)) }
+    ensures err { IfErr result (λ fault. ReportsPart (record { image = accepted.now; parts = parts.now }) (λ s. receiver_text names.now s (over s.tasks depth)) fault (W.failed out.new) (W.out out.old) (W.out out.new)) }
+{
+    let path = path_by(parts, accepted, names, receiver_at(parts, depth));
+    report_on(path, out)
+}
+
+/// Tells what stands at a depth, if it is a frame, and then what it works on.
+fn report_depth<W: Sink>(
+    parts: &Parts,
+    accepted: &Accepted,
+    depth: usize,
+    names: &SourceNames,
+    out: &mut W,
+) -> Result<(), DebugFault>
+    requires stands { Stands (record { image = accepted.now; parts = parts.now }) }
+    requires agrees { AgreesInAll (record { image = accepted.now; parts = parts.now }) }
+    ensures ok { IfOk result (λ _. (t : Typing) → IsStrongest accepted.now t → Reports (record { image = accepted.now; parts = parts.now }) (λ s. frame_text names.now t s depth) (W.out out.old) (W.out out.new)) }
+    ensures err { IfErr result (λ fault. (t : Typing) → IsStrongest accepted.now t → ReportsPart (record { image = accepted.now; parts = parts.now }) (λ s. frame_text names.now t s depth) fault (W.failed out.new) (W.out out.old) (W.out out.new)) }
+{
+    report_method(parts, accepted.checked(), depth, names, out)?;
+    report_receiver(parts, accepted, depth, names, out)
+}
+
 /// Tells the methods at hand, the outermost first: where each stands, its registers that are set, by what the strongest typing says
-/// that they are, its loops that have rounds left, and whether a trap called it.
+/// that they are, its loops that have rounds left, whether a trap called it, and, where there is a text, the path of the object that it works on.
 pub fn report_frames<W: Sink>(
     parts: &Parts,
     accepted: &Accepted,
@@ -229,11 +274,41 @@ pub fn report_frames<W: Sink>(
 ) -> Result<(), DebugFault>
     requires stands { Stands (record { image = accepted.now; parts = parts.now }) }
     requires agrees { AgreesInAll (record { image = accepted.now; parts = parts.now }) }
-    ensures ok { IfOk result (λ _. (t : Typing) → IsStrongest accepted.now t → Reports (record { image = accepted.now; parts = parts.now }) (λ s. answers_by names.now (frames_answers t s)) (W.out out.old) (W.out out.new)) }
-    ensures err { IfErr result (λ fault. (t : Typing) → IsStrongest accepted.now t → ReportsPart (record { image = accepted.now; parts = parts.now }) (λ s. answers_by names.now (frames_answers t s)) fault (W.failed out.new) (W.out out.old) (W.out out.new)) }
+    ensures ok { IfOk result (λ _. (t : Typing) → IsStrongest accepted.now t → Reports (record { image = accepted.now; parts = parts.now }) (λ s. frames_text names.now t s) (W.out out.old) (W.out out.new)) }
+    ensures err { IfErr result (λ fault. (t : Typing) → IsStrongest accepted.now t → ReportsPart (record { image = accepted.now; parts = parts.now }) (λ s. frames_text names.now t s) fault (W.failed out.new) (W.out out.old) (W.out out.new)) }
 {
     for depth in 0..parts.stack.len() {
-        report_method(parts, accepted.checked(), depth, names, out)?;
+        report_depth(parts, accepted, depth, names, out)?;
     }
     Ok(())
+}
+
+/// A register of the method that is the task over so many others, as it is told.
+fn register_over(parts: &Parts, checked: &Checked, depth: usize, register: u8) -> Option<Answer>
+    requires register { register < 16 }
+    requires stands { Stands (record { image = checked.now; parts = parts.now }) }
+    requires agrees { AgreesInAll (record { image = checked.now; parts = parts.now }) }
+    ensures { (t : Typing) → IsStrongest checked.now t → (s : State) → Refines (record { image = checked.now; parts = parts.now }) s → result ≡ register_in (λ i. kinds_of t (over s.tasks depth) i) s.cells depth (over s.tasks depth) register }
+{
+    let Some(frame) = frame_at(parts, depth) else {
+        return None;
+    };
+    match checked.shape(frame.method, frame.place) {
+        Some(shape) => register_answer(parts, &shape, &frame, register),
+        None => None,
+    }
+}
+
+/// A register of the innermost method, as it is told, where the innermost task is a method and the register is set.
+pub fn register_at(
+    parts: &Parts,
+    accepted: &Accepted,
+    register: aom_instructions::Register,
+) -> Option<Answer>
+    requires stands { Stands (record { image = accepted.now; parts = parts.now }) }
+    requires agrees { AgreesInAll (record { image = accepted.now; parts = parts.now }) }
+    ensures { (t : Typing) → IsStrongest accepted.now t → (s : State) → Refines (record { image = accepted.now; parts = parts.now }) s → result ≡ register_shown t s register }
+{
+    let depth = parts.stack.len().saturating_sub(1);
+    register_over(parts, accepted.checked(), depth, register.number())
 }

@@ -67,7 +67,12 @@ fn register_in(shape: &AbstractState<'_>, frame: &Frame, register: Register) -> 
 }
 
 /// The number of what a register of the task over so many others owns.
-fn register_number(parts: &Parts, checked: &Checked, depth: usize, register: Register) -> u32
+pub(crate) fn register_number(
+    parts: &Parts,
+    checked: &Checked,
+    depth: usize,
+    register: Register,
+) -> u32
     requires stands { Stands (record { image = checked.now; parts = parts.now }) }
     requires agrees { AgreesInAll (record { image = checked.now; parts = parts.now }) }
     ensures { Shows (record { image = checked.now; parts = parts.now }) result (In_register_of depth register) }

@@ -1,14 +1,14 @@
 //! What an inspection writes.
-ghost use Rattle.std.specs.Prelude.{◌≡◌, IfErr, IfOk};
+ghost use Rattle.std.specs.Prelude.{◌≡◌, IfErr, IfNone, IfOk, IfSome};
 ghost use Rattle.aom_transcript.specs.Text.{ended};
 ghost use Rattle.aom_transcript.specs.Sinks.{after};
 ghost use Rattle.aom_debug_protocol.specs.Answers.{answer_text};
 ghost use Rattle.aom_diagnostics.specs.Sources.{spaced};
-ghost use Rattle.aom_debug_symbols.specs.Answers.{answer_by, behind, lead_text, statement_text};
+ghost use Rattle.aom_debug_symbols.specs.Answers.{answer_by, behind, head_by, lead_text, shown_at, shown_spot, statement_text};
 ghost use Rattle.aom_debug_views.specs.Reporting.{IsCut, answers_by, answers_text, listed, tail_text};
 
 use aom_debug_protocol::{Answer, DebugFault, line_of};
-use aom_debug_symbols::{SourceNames, named_line, shown_statement};
+use aom_debug_symbols::{NamedLine, SourceNames, named_line, shown_statement};
 use aom_text::{Statement, WordCursor};
 use aom_transcript::{Sink, Text, write_text};
 
@@ -102,6 +102,32 @@ fn send_shown<W: Sink>(head: &[u8], found: Option<Statement>, out: &mut W) -> Re
     send_tail(found, out)
 }
 
+/// What the line of an answer begins with, where it tells a class, a method or a fault.
+fn head_of(names: &SourceNames, answer: &Answer) -> Option<NamedLine>
+    ensures some { IfSome result (λ line. line ≡ head_by names.now answer.now) }
+    ensures none { IfNone result (answer_by names.now answer.now ≡ answer_text answer.now) }
+{
+    named_line(names, *answer)
+}
+
+/// The statement that stands behind it.
+fn statement_of<'a>(names: &SourceNames<'a>, answer: &Answer) -> Option<Statement<'a>>
+    ensures { result ≡ shown_at names.now (shown_spot answer.now) }
+{
+    shown_statement(names, *answer)
+}
+
+/// Writes an answer by the names and the lines of a text, or as ever.
+fn report_told<W: Sink>(names: &SourceNames, answer: &Answer, out: &mut W) -> Result<(), DebugFault>
+    ensures ok { IfOk result (λ _. W.out out.new ≡ after (W.out out.old) (ended (answer_by names.now answer.now))) }
+    ensures err { IfErr result (λ fault. IsCut (ended (answer_by names.now answer.now)) fault (W.failed out.new) (W.out out.old) (W.out out.new)) }
+{
+    match head_of(names, answer) {
+        Some(head) => send_shown(head.as_bytes(), statement_of(names, answer), out),
+        None => report(*answer, out),
+    }
+}
+
 /// Writes an answer on a line by the names and the lines of a text, where there is one.
 pub fn report_by<W: Sink>(
     names: &SourceNames,
@@ -111,10 +137,7 @@ pub fn report_by<W: Sink>(
     ensures ok { IfOk result (λ _. W.out out.new ≡ after (W.out out.old) (ended (answer_by names.now answer))) }
     ensures err { IfErr result (λ fault. IsCut (ended (answer_by names.now answer)) fault (W.failed out.new) (W.out out.old) (W.out out.new)) }
 {
-    match named_line(names, answer) {
-        Some(head) => send_shown(head.as_bytes(), shown_statement(names, answer), out),
-        None => report(answer, out),
-    }
+    report_told(names, &answer, out)
 }
 
 /// Writes it if there is one.

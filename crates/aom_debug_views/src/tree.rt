@@ -24,7 +24,7 @@ use aom_machine_state::Parts;
 use aom_transcript::Sink;
 
 /// How many generations may hang from a place: an object that another owns is of a lower class, and a message owns nothing.
-const GENERATIONS: usize = 257;
+pub(crate) const GENERATIONS: usize = 257;
 
 /// Writes the line of an object of a class.
 fn report_owned<W: Sink>(
@@ -112,7 +112,7 @@ fn report_message<W: Sink>(
 }
 
 /// The client that has been connected longest to what lives there, if it is a server.
-fn first_session(parts: &Parts, id: CellId) -> Option<u8>
+pub(crate) fn first_session(parts: &Parts, id: CellId) -> Option<u8>
     requires stands { (p : Image) × Stands (record { image = p; parts = parts.now }) }
     requires lives { Lives parts.now.cells id }
     ensures value { result ≡ first_client (sessions_at parts.now.clients id) }
@@ -122,7 +122,7 @@ fn first_session(parts: &Parts, id: CellId) -> Option<u8>
 }
 
 /// The client that was connected right after this one.
-fn next_session(parts: &Parts, id: CellId, client: u8) -> Option<u8>
+pub(crate) fn next_session(parts: &Parts, id: CellId, client: u8) -> Option<u8>
     requires { IsIn client (sessions_at parts.now.clients id) }
     ensures value { result ≡ client_after client (sessions_at parts.now.clients id) }
     ensures below { IfSome result (λ c. c < 64) }
@@ -155,7 +155,7 @@ pub(crate) fn session_in(parts: &Parts, number: u32, client: u8) -> u32
 }
 
 /// The same of a server that lives.
-fn session_number(parts: &Parts, id: CellId, client: u8) -> u32
+pub(crate) fn session_number(parts: &Parts, id: CellId, client: u8) -> u32
     requires { client < 64 }
     ensures { result ≡ session_with id (client_at parts.now.clients client) }
 {

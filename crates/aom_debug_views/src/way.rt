@@ -14,7 +14,7 @@ use aom_transcript::Text;
 const LONGEST: usize = 1536;
 
 /// The text of a way, with room for any.
-pub(crate) type PathText = Text<LONGEST>;
+pub type PathText = Text<LONGEST>;
 
 /// The root.
 pub(crate) fn root() -> PathText

@@ -26,7 +26,7 @@ use Rattle.aom_abstract_state.specs.declared.why.Reason.TheVariants.{FieldsLeft,
 use Rattle.aom_abstract_state.specs.declared.why.Reason.TheVariants.{NotCancelled, MessageAtLeave, MessageAtReturn, NotAdded, EntryState, QuietBroken}
 use Rattle.aom_static_bounds.specs.Shapes.{HasTyping, Shapes}
 use Rattle.aom_verify.specs.Arrivals.{StopsAt}
-use Rattle.aom_diagnostic_commands.specs.Explained.{KnownThere, is_need, state_text, reports_why, ways_differ}
+use Rattle.aom_diagnostic_commands.specs.Explained.{KnownThere, TellsState, ToldBy, is_need, reports_why, ways_differ}
 use Rattle.aom_diagnostic_commands.specs.Explained.KnownThere.{elsewhere, known, unrefused}
 
 -- ---- what an instruction asks
@@ -100,32 +100,32 @@ same_why a b e = same_Some a b (sym (numbered a) ∙ ap (slice_get whys) e ∙ n
 
 -- ---- where work ends
 
-module _ (p : Image) (m place : ℕ) (why : Reason) (out : List ℕ) where
+module _ (by : ToldBy) (p : Image) (m place : ℕ) (why : Reason) (out : List ℕ) where
   module _ (s : Shapes) (other : ℕ) (reason : Reason) (stop : StopsAt p m s other reason) where
     -- work ends there, and the state of the place is told
-    pub reported_there : (sh : AbstractState) (new : List ℕ) → other ≡ place → reason ≡ why → Some sh ≡ at None s place → new ≡ out ++ state_text p m place sh why →
-        KnownThere p m place why out new
+    pub reported_there : (sh : AbstractState) (new : List ℕ) → other ≡ place → reason ≡ why → Some sh ≡ at None s place → TellsState by p m s place sh why out new →
+        KnownThere by p m place why out new
     reported_there sh new here so is put =
         let moved = subst (λ k. StopsAt p m s k why) here (subst (λ w. StopsAt p m s other w) so stop) in
-        known s moved (put ∙ ap (λ x. out ++ state_text p m place x why) (same_Some sh moved.shape (is ∙ moved.there)))
+        known s moved (subst (λ (x : AbstractState). TellsState by p m s place x why out new) (same_Some sh moved.shape (is ∙ moved.there)) put)
 
     -- the place has a state
     pub some_state : other ≡ place → None ≡ at None s place → ⊥
     some_state here none = none-some stop.shape (none ∙ ap (at None s) (sym here) ∙ stop.there)
 
     -- it ends elsewhere, or for another reason
-    pub ends_elsewhere : (other ≡ place → reason ≡ why → ⊥) → KnownThere p m place why out out
+    pub ends_elsewhere : (other ≡ place → reason ≡ why → ⊥) → KnownThere by p m place why out out
     ends_elsewhere not = elsewhere s other reason stop not refl
 
   -- it ends nowhere
-  pub ends_nowhere : HasTyping p m → KnownThere p m place why out out
+  pub ends_nowhere : HasTyping p m → KnownThere by p m place why out out
   ends_nowhere typing = unrefused (λ linked there none. none typing) refl
 
-  pub no_method : (IsSome (method_at p m) → ⊥) → KnownThere p m place why out out
+  pub no_method : (IsSome (method_at p m) → ⊥) → KnownThere by p m place why out out
   no_method none = unrefused (λ linked there untyped. none there) refl
 
   -- the parts of the image do not go together
-  pub not_linked : (fault : LinkFault) → RefusesOrWants p fault → (fault ≡ OutOfMemory → ⊥) → KnownThere p m place why out out
+  pub not_linked : (fault : LinkFault) → RefusesOrWants p fault → (fault ≡ OutOfMemory → ⊥) → KnownThere by p m place why out out
   unfolding RefusesOrWants Fails
   not_linked fault refused other = unrefused (λ linked there untyped. unlinked fault refused other linked) refl
     where

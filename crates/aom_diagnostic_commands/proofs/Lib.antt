@@ -3,6 +3,7 @@ mod EachAnswer
 mod EachTelling
 mod Searching
 mod Knowing
+mod Pieces
 mod Placing
 mod Saying
 mod Told

@@ -1,5 +1,5 @@
 -- Lines of warnings one behind the other, and what the status answers of them.
-use Rattle.std.proofs.Common.{◌≡◌, ◌<◌, ◌+◌, ◌++◌, ◌∙◌, ℕ, suc, List, [], ◌∷◌, Ok, Err, OnOk, Result, decimal, ap, arith, append_assoc, inl, inr, length, slice_index_or, subst, sym, take}
+use Rattle.std.proofs.Common.{◌≡◌, ◌<◌, ◌+◌, ◌++◌, ◌∙◌, ℕ, suc, zero, List, [], ◌∷◌, Ok, Err, OnOk, Result, decimal, ap, arith, append_assoc, inl, inr, length, refl, slice_index_or, subst, sym, take}
 use Rattle.std.proofs.Math.Seq.{take-suc}
 use Rattle.std.proofs.lemmas.List.{append-nil}
 use Rattle.aom_image.specs.Image.{Image}
@@ -14,7 +14,7 @@ use Rattle.aom_commands.specs.declared.faults.Fault.{Fault}
 use Rattle.aom_commands.specs.declared.status.ExitStatus.{ExitStatus}
 use Rattle.aom_diagnostic_commands.specs.Warned.{IsWarned, WarnsBy, warning_lines}
 
-lines_behind : (line : Warning → List ℕ) (xs : List Warning) (x : Warning) → warning_lines line (xs ++ x ∷ []) ≡ warning_lines line xs ++ line x
+lines_behind : {A : Type 0} (line : A → List ℕ) (xs : List A) (x : A) → warning_lines line (xs ++ x ∷ []) ≡ warning_lines line xs ++ line x
 lines_behind line [] x = append-nil (line x)
 lines_behind line (y ∷ ys) x = ap (λ text. line y ++ text) (lines_behind line ys x) ∙ sym (append_assoc (line y) (warning_lines line ys) (line x))
 
@@ -24,8 +24,14 @@ pub numbered_behind : {A E : Type 0} (found : Result A E) (out now words : List 
 numbered_behind (Ok done) out now words n k same h = h ∙ append_assoc out words (decimal n) ∙ ap (λ j. out ++ (words ++ decimal j)) same
 numbered_behind (Err e) out now words n k same h = h
 
+-- a list has one item at a place, whatever stands for those that it lacks
+pub one_there : {A : Type 0} (xs : List A) (i : ℕ) (one other : A) → i < length xs → slice_index_or xs i one ≡ slice_index_or xs i other
+one_there [] i one other below = absurd (omega (arith, below))
+one_there (x ∷ xs) zero one other below = refl
+one_there (x ∷ xs) (suc i) one other below = one_there xs i one other (omega (arith, below))
+
 -- one line more
-pub line_more : (line : Warning → List ℕ) (ws : List Warning) (i : ℕ) (w : Warning) (before now text : List ℕ) → i < length ws → w ≡ slice_index_or ws i w →
+pub line_more : {A : Type 0} (line : A → List ℕ) (ws : List A) (i : ℕ) (w : A) (before now text : List ℕ) → i < length ws → w ≡ slice_index_or ws i w →
     now ≡ before ++ warning_lines line (take i ws) → text ≡ now ++ line w → text ≡ before ++ warning_lines line (take (i + 1) ws)
 line_more line ws i w before now text within is so_far added =
     let more : i + 1 ≡ suc i = omega arith in

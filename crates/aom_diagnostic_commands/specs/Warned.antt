@@ -1,5 +1,5 @@
 -- How the warnings of an image are told.
-use Rattle.std.specs.Prelude.{ℕ, ◌≡◌, ◌⊎◌, List, [], ◌∷◌, ◌++◌, Option, None, Some, codes, decimal}
+use Rattle.std.specs.Prelude.{ℕ, ◌≡◌, ◌≤◌, ◌<◌, ◌^◌, ◌⊎◌, List, length, [], ◌∷◌, ◌++◌, Option, None, Some, codes, decimal}
 use Rattle.aom_image.specs.Image.{Image}
 use Rattle.aom_codec.specs.Format.{first_fault}
 use Rattle.aom_link_conditions.specs.declared.place.LinkPlace.{LinkPlace}
@@ -11,11 +11,18 @@ use Rattle.aom_cost_report.specs.Names.{label}
 use Rattle.aom_cost_report.specs.Places.{place_text}
 use Rattle.aom_diagnostics.specs.Linking.{link_line}
 use Rattle.aom_commands.specs.Acceptable.{IsSerialized}
-use Rattle.aom_commands.specs.Headline.{ImageWantsMemory, RefusedFor, Sent, WriteFails, Writes}
+use Rattle.aom_commands.specs.Assembly.{RefusesBytes}
+use Rattle.aom_commands.specs.Headline.{ImageWantsMemory, IsSilent, RefusedFor, Says, Sent, WriteFails, Writes}
+use Rattle.aom_commands.specs.declared.faults.Fault.{Fault}
 use Rattle.aom_commands.specs.declared.faults.Fault.TheVariants.{Load}
 use Rattle.aom_commands.specs.declared.status.ExitStatus.{ExitStatus}
 use Rattle.aom_commands.specs.declared.status.ExitStatus.TheVariants.{Done, ImageRefused, Fault as Faulty}
 use Rattle.aom_diagnostics.specs.Declarations.{class_names, method_names}
+use Rattle.aom_diagnostic_commands.specs.Programs.{IsLoaded, RefusesProgram}
+use Rattle.aom_diagnostic_commands.specs.declared.program.Program.{Program}
+use Rattle.aom_diagnostic_commands.specs.declared.program.ProgramFault.{ProgramFault}
+use Rattle.aom_script_warnings.specs.Warned.{script_warnings}
+use Rattle.aom_script_warnings.specs.declared.warned.NoServer.{NoServer}
 use Rattle.aom_diagnostic_commands.specs.declared.telling.Telling.{Telling}
 use Rattle.aom_diagnostic_commands.specs.declared.telling.Telling.TheVariants.{AsLine}
 
@@ -71,7 +78,7 @@ abbrev pub warning_line : Telling → Option (List ℕ) → Warning → List ℕ
 warning_line telling text w = warning_text telling (line_in text w) (classes_in text) (methods_in text) w
 
 -- one line behind the other
-abbrev pub warning_lines : (Warning → List ℕ) → List Warning → List ℕ
+abbrev pub warning_lines : {A : Type 0} → (A → List ℕ) → List A → List ℕ
 warning_lines line [] = []
 warning_lines line (w ∷ others) = line w ++ warning_lines line others
 
@@ -89,3 +96,25 @@ WarnsBy line bytes out errors Done = Writes (IsWarned line bytes) out errors
 WarnsBy line bytes out errors ImageRefused = RefusedFor Load (λ fault. first_fault bytes ≡ Some fault) out errors
 WarnsBy line bytes out errors Faulty = ImageWantsMemory out errors ⊎ WriteFails (IsWarned line bytes) out errors
 WarnsBy line bytes out errors _ = ⊥
+
+-- ---- of a script
+
+-- one warning in a line, by these names of classes
+abbrev pub script_line : (classes : List (List ℕ)) → NoServer → List ℕ
+script_line classes w =
+    codes "warning line " ++ (decimal w.line ++ (codes " of the script: " ++ (label classes (codes "class ") w.class ++ (codes " is no server" ++ 10 ∷ []))))
+
+-- the text tells all warnings of a script beside the image that the bytes spell; a script that is too long is none
+pub record IsScriptWarned (classes : List (List ℕ)) (bytes script text : List ℕ) : Type 0 where
+  pub image : Image
+  pub serialized : IsSerialized bytes image
+  pub told : length script ≤ 2 ^ 20 → text ≡ warning_lines (script_line classes) (script_warnings image script)
+  pub long : 2 ^ 20 < length script → text ≡ []
+
+-- what was said of a script beside a program: its warnings, or nothing where that has no image
+pub data WarnsOfScript (program : Program) (script : List ℕ) (errors : Sent) : Type 0 where
+  said : (image : List ℕ) (text : Option (List ℕ)) (lines : List ℕ) → IsLoaded program image text → IsScriptWarned (classes_in text) image script lines →
+      Says lines errors → WarnsOfScript program script errors
+  unloaded : (fault : ProgramFault) → RefusesProgram program fault → IsSilent errors → WarnsOfScript program script errors
+  unread : (image : List ℕ) (text : Option (List ℕ)) (fault : Fault) → IsLoaded program image text → RefusesBytes image fault → IsSilent errors →
+      WarnsOfScript program script errors

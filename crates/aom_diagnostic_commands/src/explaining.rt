@@ -6,21 +6,23 @@ ghost use Rattle.aom_diagnostics.specs.Sources.{declared_text};
 ghost use Rattle.aom_diagnostics.specs.Table.{word_texts};
 ghost use Rattle.aom_diagnostics.specs.declared.word.Unnumbered.TheVariants.{Text};
 ghost use Rattle.aom_commands.specs.Acceptable.{IsSerialized};
-ghost use Rattle.aom_diagnostic_commands.specs.Explained.{Adds, AddsBeside, AddsKnown, AddsRefusal, Explains, ExplainsByText, refusal_source, refusal_texts, texts_of};
+ghost use Rattle.aom_diagnostic_commands.specs.Explained.{Adds, AddsBeside, AddsKnown, AddsRefusal, Explains, ExplainsByText, KnownThere, by_text, refusal_source, refusal_texts, texts_of};
 
 use crate::linking::{write_link, write_link_beside};
 use crate::stopping::write_known_at;
+use crate::told_by::{RefusedPlace, Told};
 use crate::with_text::ImageText;
 use crate::wrong::write_asm;
 use aom_budget::BudgetFault;
 use aom_codec::decode;
 use aom_commands::Fault;
-use aom_cost_report::FigureWriter;
+use aom_cost_report::{FigureWriter, Names};
 use aom_diagnostics::{
-    Explanation, Unnumbered, asm_entry, boot_entry, budget_entry, link_entry, load_entry,
-    script_entry, verify_entry, word_entry, write_compared, write_declared, write_entry,
-    write_line, write_method, write_source,
+    Explanation, Unnumbered, asm_entry, boot_entry, budget_entry, class_names, link_entry,
+    load_entry, method_names, script_entry, verify_entry, word_entry, write_compared,
+    write_declared, write_entry, write_line, write_method, write_source,
 };
+use aom_image::Image;
 use aom_verify::Refusal;
 use std::alloc::{AllocError, Global};
 
@@ -67,7 +69,18 @@ fn write_refusal(
         Refusal::Refused { method, place, why } => match decode(alloc, image) {
             Ok(image) => {
                 write_method(alloc, out, &image, method, place)?;
-                write_known_at(alloc, out, image, method, place, why)
+                let names = Names::none();
+                let told = Told {
+                    names: &names,
+                    text: None,
+                };
+                write_known_at(
+                    alloc,
+                    out,
+                    &told,
+                    image,
+                    &RefusedPlace { method, place, why },
+                )
             }
             Err(_) => Err(AllocError),
         },
@@ -110,6 +123,26 @@ pub fn explanation(
     Ok(out.into_text())
 }
 
+/// Writes what is known at the place of a refusal, by the names and the lines of the text that the image is of.
+fn write_known_by_text(
+    alloc: Global,
+    out: &mut FigureWriter,
+    image: Image,
+    text: &ImageText,
+    at: &RefusedPlace,
+) -> Result<(), AllocError>
+    ensures { OnOk result (KnownThere (by_text text.now) image at.now.method at.now.place at.now.why out.old out.new) }
+{
+    let classes = class_names(alloc, text.bytes())?;
+    let methods = method_names(alloc, text.bytes())?;
+    let names = Names::new(&classes, &methods);
+    let told = Told {
+        names: &names,
+        text: Some(text),
+    };
+    write_known_at(alloc, out, &told, image, at)
+}
+
 /// Writes where the text that the image is of has the place of a refusal, and what is known there.
 fn write_refusal_source(
     alloc: Global,
@@ -118,14 +151,20 @@ fn write_refusal_source(
     text: &ImageText,
     refusal: Refusal,
 ) -> Result<(), AllocError>
-    ensures { OnOk result (AddsKnown image.now refusal (out.old ++ refusal_source text.now refusal) out.new) }
+    ensures { OnOk result (AddsKnown image.now text.now refusal (out.old ++ refusal_source text.now refusal) out.new) }
 {
     match refusal {
         Refusal::OutOfMemory => Ok(()),
         Refusal::Refused { method, place, why } => match decode(alloc, image) {
             Ok(image) => {
                 write_source(out, text.bytes(), method, place)?;
-                write_known_at(alloc, out, image, method, place, why)
+                write_known_by_text(
+                    alloc,
+                    out,
+                    image,
+                    text,
+                    &RefusedPlace { method, place, why },
+                )
             }
             Err(_) => Err(AllocError),
         },

@@ -3,13 +3,14 @@
 //! `check`, `run`, `explore`, `debug`, `asm` and `dot` take a `Program` and, where a fault can be told in more than one way, a `Telling`. They
 //! promise `Answers` of `specs/Programs.antt`: the program has an image, and the call answers of it as the command of `aom_commands` does; or
 //! the text is refused, nothing else is done, and that is told. `check_all` tells the first fault of each method that the verifier refuses,
-//! and promises `AnswersAll` of `specs/EachMethod.antt`. `warn` tells the warnings of an image
-//! (`specs/Warned.antt`). `Tells` of `specs/Tellings.antt` says how a fault is told: by its line, with
+//! and promises `AnswersAll` of `specs/EachMethod.antt`. `warn` tells the warnings of an image, and
+//! `warn_script` those of a script (`specs/Warned.antt`). `Tells` of `specs/Tellings.antt` says how a fault is told: by its line, with
 //! what it means behind it (`specs/Explained.antt`, which `aom_diagnostics` writes), or in one line of the text's file, as compilers do
 //! (`specs/AsLine.antt`). With a text, figures, graphs, transcripts and the debugger have its names (`specs/Naming.antt`).
 //! Nothing here knows why an image is refused, nor where a sink leads.
 #![tactic(auto)]
 
+mod causes;
 mod commands;
 mod debugging;
 mod each_method;
@@ -21,8 +22,10 @@ mod program;
 mod refusals;
 mod reporting;
 mod reporting_by_text;
+mod script_warned;
 mod stopping;
 mod telling;
+mod told_by;
 mod unread;
 mod warned;
 mod with_text;
@@ -30,4 +33,5 @@ mod wrong;
 
 pub use commands::{asm, check, check_all, debug, dot, explore, run, warn};
 pub use program::Program;
+pub use script_warned::warn_script;
 pub use telling::Telling;

@@ -27,7 +27,7 @@ fn place_of(warning: &Warning) -> LinkPlace
 }
 
 /// Writes the name at a number or, where there is none, words and the number.
-fn write_label(
+pub(crate) fn write_label(
     out: &mut FigureWriter,
     names: &[&[u8]],
     words: &[u8],
@@ -162,7 +162,10 @@ fn write_warnings(
 }
 
 /// The names of the classes of a program's text, where there is a text.
-fn classes_in<'a>(alloc: Global, program: &'a LoadedProgram) -> Result<Vec<&'a [u8]>, AllocError>
+pub(crate) fn classes_in<'a>(
+    alloc: Global,
+    program: &'a LoadedProgram,
+) -> Result<Vec<&'a [u8]>, AllocError>
     ensures { IfOk result (λ names. map (λ w. w.now) names.items ≡ classes_in program.now.text) }
 {
     match program.text() {

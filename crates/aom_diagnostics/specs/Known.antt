@@ -1,5 +1,6 @@
 -- What is known where a method stands: of its registers, of the fields and the request of its object, of its cleanup entries and of its message.
 use Rattle.std.specs.Prelude.{ℕ, zero, suc, Bool, true, false, cond, not, ◌||◌, ◌==◌, List, [], ◌∷◌, ◌++◌, Option, Some, None, codes, decimal, is_some, length, nat_lt, slice_get}
+use Rattle.aom_cost_report.specs.Names.{Names, label}
 use Rattle.aom_cost_report.specs.Text.{by_number}
 use Rattle.aom_image.specs.Image.{Image}
 use Rattle.aom_image.specs.Views.{has}
@@ -21,31 +22,31 @@ use Rattle.aom_abstract_state.specs.declared.kind.Kind.TheVariants.{Unset, Word,
 
 -- ---- what is held
 
-abbrev pub class_words : ℕ → List ℕ
-class_words c = codes "an object of class " ++ decimal c
+abbrev pub class_words : Names → ℕ → List ℕ
+class_words ns c = codes "an object of class " ++ label ns.classes [] c
 
-abbrev pub thing_words : Thing → List ℕ
-thing_words (Object c) = class_words c
-thing_words Message = codes "a message"
+abbrev pub thing_words : Names → Thing → List ℕ
+thing_words ns (Object c) = class_words ns c
+thing_words ns Message = codes "a message"
 
 -- an object that waits for its construct method is fresh
 abbrev pub age_words : InitState → List ℕ
 age_words Fresh = codes ", fresh"
 age_words Ready = []
 
-abbrev pub owned_words : List ℕ → Thing → InitState → List ℕ
-owned_words lead t a = lead ++ (thing_words t ++ age_words a)
+abbrev pub owned_words : Names → List ℕ → Thing → InitState → List ℕ
+owned_words ns lead t a = lead ++ (thing_words ns t ++ age_words a)
 
-abbrev pub kind_words : Kind → List ℕ
-kind_words Unset = codes "unset"
-kind_words Word = codes "a word"
-kind_words Null = codes "null"
-kind_words (Own t a) = owned_words (codes "owns ") t a
-kind_words (Maybe t a) = owned_words (codes "null, or owns ") t a
+abbrev pub kind_words : Names → Kind → List ℕ
+kind_words ns Unset = codes "unset"
+kind_words ns Word = codes "a word"
+kind_words ns Null = codes "null"
+kind_words ns (Own t a) = owned_words ns (codes "owns ") t a
+kind_words ns (Maybe t a) = owned_words ns (codes "null, or owns ") t a
 
 -- a place by its number, and what it holds
-abbrev pub held_words : List ℕ → ℕ → Kind → List ℕ
-held_words lead number k = lead ++ (decimal number ++ (codes " " ++ kind_words k))
+abbrev pub held_words : Names → List ℕ → ℕ → Kind → List ℕ
+held_words ns lead number k = lead ++ (decimal number ++ (codes " " ++ kind_words ns k))
 
 -- the first of its line, and one behind others
 abbrev pub lead_of : ℕ → (first later : List ℕ) → List ℕ
@@ -58,16 +59,16 @@ words_where false words = []
 
 -- ---- registers
 
-abbrev pub set_part : ℕ → Kind → List ℕ
-set_part i k = held_words (codes " r") i k ++ codes ";"
+abbrev pub set_part : Names → ℕ → Kind → List ℕ
+set_part ns i k = held_words ns (codes " r") i k ++ codes ";"
 
 -- a register of which nothing is known has no part
-abbrev pub register_part : ℕ → Kind → List ℕ
-register_part i k = words_where (not (is_unset k)) (set_part i k)
+abbrev pub register_part : Names → ℕ → Kind → List ℕ
+register_part ns i k = words_where (not (is_unset k)) (set_part ns i k)
 
 -- the parts of all registers, in order
-unfoldable pub register_parts : AbstractState → List ℕ
-register_parts sh = by_number (λ i. register_part i (register sh i)) 16
+unfoldable pub register_parts : Names → AbstractState → List ℕ
+register_parts ns sh = by_number (λ i. register_part ns i (register sh i)) 16
 
 -- something is known of one of the first so many
 abbrev pub known_below : AbstractState → ℕ → Bool
@@ -81,53 +82,53 @@ abbrev pub rest_words : Bool → List ℕ
 rest_words true = codes " all others unset"
 rest_words false = codes " all unset"
 
-unfoldable pub registers_line : AbstractState → List ℕ
-registers_line sh = codes "Known of registers:" ++ (register_parts sh ++ (rest_words (any_known sh) ++ 10 ∷ []))
+unfoldable pub registers_line : Names → AbstractState → List ℕ
+registers_line ns sh = codes "Known of registers:" ++ (register_parts ns sh ++ (rest_words (any_known sh) ++ 10 ∷ []))
 
 -- ---- fields
 
 -- a field that is not declared has no part
-abbrev pub field_part : ℕ → Option Thing → FieldState → List ℕ
-field_part f None x = []
-field_part f (Some t) x = held_words (lead_of f (codes " f") (codes "; f")) f (filled (Some t) x)
+abbrev pub field_part : Names → ℕ → Option Thing → FieldState → List ℕ
+field_part ns f None x = []
+field_part ns f (Some t) x = held_words ns (lead_of f (codes " f") (codes "; f")) f (filled (Some t) x)
 
-unfoldable pub field_parts : Image → ℕ → AbstractState → List ℕ
-field_parts p m sh = by_number (λ f. field_part f (field_thing p (holder_of p m) f) (field sh f)) 8
+unfoldable pub field_parts : Names → Image → ℕ → AbstractState → List ℕ
+field_parts ns p m sh = by_number (λ f. field_part ns f (field_thing p (holder_of p m) f) (field sh f)) 8
 
-unfoldable pub field_line : Image → ℕ → AbstractState → List ℕ
-field_line p m sh = codes "Known of fields:" ++ (field_parts p m sh ++ 10 ∷ [])
+unfoldable pub field_line : Names → Image → ℕ → AbstractState → List ℕ
+field_line ns p m sh = codes "Known of fields:" ++ (field_parts ns p m sh ++ 10 ∷ [])
 
 -- fields are declared from the first on; where none is there is no line
-abbrev pub fields_line : Image → ℕ → AbstractState → List ℕ
-fields_line p m sh = words_where (is_some (field_thing p (holder_of p m) 0)) (field_line p m sh)
+abbrev pub fields_line : Names → Image → ℕ → AbstractState → List ℕ
+fields_line ns p m sh = words_where (is_some (field_thing p (holder_of p m) 0)) (field_line ns p m sh)
 
 -- ---- cleanup entries
 
-abbrev pub pushed_words : CleanupEntry → List ℕ
-pushed_words (An_object c a) = class_words c ++ age_words a
-pushed_words Operation = codes "an operation"
+abbrev pub pushed_words : Names → CleanupEntry → List ℕ
+pushed_words ns (An_object c a) = class_words ns c ++ age_words a
+pushed_words ns Operation = codes "an operation"
 
-abbrev pub entry_words : List ℕ → ℕ → CleanupEntry → List ℕ
-entry_words lead k e = (lead ++ decimal k) ++ (codes " " ++ pushed_words e)
+abbrev pub entry_words : Names → List ℕ → ℕ → CleanupEntry → List ℕ
+entry_words ns lead k e = (lead ++ decimal k) ++ (codes " " ++ pushed_words ns e)
 
 -- a cleanup entry, counted from the last one that was pushed, if it is there
-abbrev pub entry_part : ℕ → Option CleanupEntry → List ℕ
-entry_part k None = []
-entry_part k (Some e) = entry_words (lead_of k (codes " c") (codes "; c")) k e
+abbrev pub entry_part : Names → ℕ → Option CleanupEntry → List ℕ
+entry_part ns k None = []
+entry_part ns k (Some e) = entry_words ns (lead_of k (codes " c") (codes "; c")) k e
 
 -- as far as an instruction may name them
-unfoldable pub entry_parts : AbstractState → List ℕ
-entry_parts sh = by_number (λ k. entry_part k (slice_get sh.entries k)) 16
+unfoldable pub entry_parts : Names → AbstractState → List ℕ
+entry_parts ns sh = by_number (λ k. entry_part ns k (slice_get sh.entries k)) 16
 
 abbrev pub more_words : ℕ → List ℕ
 more_words height = words_where (nat_lt 16 height) (codes "; others below them")
 
-unfoldable pub entry_line : AbstractState → List ℕ
-entry_line sh = codes "Known of cleanup entries:" ++ (entry_parts sh ++ (more_words (length sh.entries) ++ 10 ∷ []))
+unfoldable pub entry_line : Names → AbstractState → List ℕ
+entry_line ns sh = codes "Known of cleanup entries:" ++ (entry_parts ns sh ++ (more_words (length sh.entries) ++ 10 ∷ []))
 
 -- the method's own, if there are any
-abbrev pub entries_line : AbstractState → List ℕ
-entries_line sh = words_where (not (length sh.entries == 0)) (entry_line sh)
+abbrev pub entries_line : Names → AbstractState → List ℕ
+entries_line ns sh = words_where (not (length sh.entries == 0)) (entry_line ns sh)
 
 -- ---- the request and the message
 
@@ -154,5 +155,5 @@ delivery_line Gone = codes "Known of the message: taken" ++ 10 ∷ []
 
 -- ---- all
 
-abbrev pub known_text : Image → ℕ → AbstractState → List ℕ
-known_text p m sh = registers_line sh ++ (fields_line p m sh ++ (entries_line sh ++ (states_line sh.states ++ delivery_line sh.message_state)))
+abbrev pub known_text : Names → Image → ℕ → AbstractState → List ℕ
+known_text ns p m sh = registers_line ns sh ++ (fields_line ns p m sh ++ (entries_line ns sh ++ (states_line sh.states ++ delivery_line sh.message_state)))

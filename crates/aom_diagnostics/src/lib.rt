@@ -44,7 +44,7 @@ pub use as_line::{
 pub use compared::write_compared;
 pub use entry::{Explanation, write_entry};
 pub use finding::{begins_with, instruction_statement};
-pub use known::write_known;
+pub use known::{write_kind, write_known};
 pub use laws::statements_declare;
 pub use linking::{link_line, write_link_place, write_link_source};
 pub use malformed::write_form;

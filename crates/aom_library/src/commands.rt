@@ -7,6 +7,6 @@ pub use aom_commands::{
 };
 pub use aom_debug::debug_bytes;
 pub use aom_diagnostic_commands::{
-    Program, Telling, asm, check, check_all, debug, dot, explore, run, warn,
+    Program, Telling, asm, check, check_all, debug, dot, explore, run, warn, warn_script,
 };
 pub use aom_fault_injection::{Part, Tries};

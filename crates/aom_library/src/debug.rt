@@ -4,8 +4,9 @@ pub use aom_debug::{
     Awaited, Debugger, Holding, Inspection, Owner, Reader, Runner, SourceNames, report_place,
 };
 pub use aom_debug_protocol::{
-    Answer, AnswerLine, Branch, Breakpoints, ClientNumber, CodeLocation, Command, Content,
-    DebugFault, History, Outer, Path, Pending, Phase, Source, Verb, ends_session, help_by,
-    help_text, line_of, may_repeat, read_command, verb_named,
+    Answer, AnswerLine, Branch, Breakpoint, Breakpoints, ClientNumber, CodeLocation, Command,
+    Comparison, Condition, Content, DebugFault, History, Outer, Path, Pending, Phase, Source,
+    Variable, Verb, ends_session, help_by, help_text, line_of, may_repeat, read_command,
+    verb_named,
 };
 pub use aom_memory::SliceReader;

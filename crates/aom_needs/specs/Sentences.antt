@@ -22,6 +22,7 @@ use Rattle.aom_abstract_state.specs.declared.kind.Kind.TheVariants.{Unset, Word,
 use Rattle.aom_abstract_state.specs.declared.why.Reason.{Reason}
 use Rattle.aom_typing_rules.specs.Beginning.{resting}
 use Rattle.aom_typing_rules.specs.Requests.{own_kind}
+use Rattle.aom_cost_report.specs.Names.{Names, label}
 use Rattle.aom_needs.specs.Asked.{moved, moved_wanted, wanted}
 use Rattle.aom_needs.specs.Wanted.{cancelling, first_unmet, held, is_told}
 use Rattle.aom_needs.specs.declared.wanted.ClassNeed.{ClassNeed}
@@ -33,30 +34,33 @@ use Rattle.aom_needs.specs.declared.wanted.Wanted.TheVariants as want
 
 -- ---- what is there
 
-abbrev pub thing_words : Thing → List ℕ
-thing_words (Object c) = codes "an object of class " ++ decimal c
-thing_words Message = codes "a message"
+abbrev pub class_named : Names → ℕ → List ℕ
+class_named ns c = codes "an object of class " ++ label ns.classes [] c
 
-abbrev pub kind_clause : Kind → List ℕ
-kind_clause Unset = codes "; it is unset"
-kind_clause Word = codes "; it is a word"
-kind_clause Null = codes "; it is null"
-kind_clause (Own t a) = codes "; it owns " ++ thing_words t
-kind_clause (Maybe t a) = codes "; it is null, or owns " ++ thing_words t
+abbrev pub thing_words : Names → Thing → List ℕ
+thing_words ns (Object c) = class_named ns c
+thing_words ns Message = codes "a message"
 
-abbrev pub pushed_clause : CleanupEntry → List ℕ
-pushed_clause Operation = codes "; it is an operation"
-pushed_clause (An_object c a) = codes "; it owns " ++ thing_words (Object c)
+abbrev pub kind_clause : Names → Kind → List ℕ
+kind_clause ns Unset = codes "; it is unset"
+kind_clause ns Word = codes "; it is a word"
+kind_clause ns Null = codes "; it is null"
+kind_clause ns (Own t a) = codes "; it owns " ++ thing_words ns t
+kind_clause ns (Maybe t a) = codes "; it is null, or owns " ++ thing_words ns t
 
-abbrev pub entry_clause : Option CleanupEntry → List ℕ
-entry_clause None = codes "; it is not there"
-entry_clause (Some e) = pushed_clause e
+abbrev pub pushed_clause : Names → CleanupEntry → List ℕ
+pushed_clause ns Operation = codes "; it is an operation"
+pushed_clause ns (An_object c a) = codes "; it owns " ++ thing_words ns (Object c)
+
+abbrev pub entry_clause : Names → Option CleanupEntry → List ℕ
+entry_clause ns None = codes "; it is not there"
+entry_clause ns (Some e) = pushed_clause ns e
 
 -- ---- registers
 
 -- a need of a register, and what that holds
-abbrev pub register_need : (lead : List ℕ) → (number : ℕ) → Kind → List ℕ
-register_need lead r k = lead ++ (decimal r ++ kind_clause k)
+abbrev pub register_need : Names → (lead : List ℕ) → (number : ℕ) → Kind → List ℕ
+register_need ns lead r k = lead ++ (decimal r ++ kind_clause ns k)
 
 -- how to be rid of an owner
 abbrev pub rid_of : Thing → List ℕ
@@ -68,8 +72,8 @@ rid_words (Own t a) = rid_of t
 rid_words (Maybe t a) = rid_of t
 rid_words _ = []
 
-abbrev pub unowning_need : (number : ℕ) → Kind → List ℕ
-unowning_need r k = register_need (codes "nothing owned in r") r k ++ rid_words k
+abbrev pub unowning_need : Names → (number : ℕ) → Kind → List ℕ
+unowning_need ns r k = register_need ns (codes "nothing owned in r") r k ++ rid_words k
 
 -- ---- owners
 
@@ -83,10 +87,10 @@ abbrev pub sure_words : Kind → List ℕ
 sure_words (Maybe t a) = codes ", surely"
 sure_words _ = []
 
-abbrev pub operand_clause : Image → ℕ → AbstractState → Operand → List ℕ
-operand_clause p m sh (operands.Register r) = kind_clause (held p m sh (operands.Register r))
-operand_clause p m sh (operands.Field f) = kind_clause (held p m sh (operands.Field f))
-operand_clause p m sh (operands.Entry k) = entry_clause (slice_get sh.entries k)
+abbrev pub operand_clause : Names → Image → ℕ → AbstractState → Operand → List ℕ
+operand_clause ns p m sh (operands.Register r) = kind_clause ns (held p m sh (operands.Register r))
+operand_clause ns p m sh (operands.Field f) = kind_clause ns (held p m sh (operands.Field f))
+operand_clause ns p m sh (operands.Entry k) = entry_clause ns (slice_get sh.entries k)
 
 -- the instruction that tells an owner from null
 abbrev pub ask_of : Operand → List ℕ
@@ -110,23 +114,27 @@ may_be_object (Maybe t a) = is_object t
 may_be_object _ = false
 
 -- where an owner is wanted, and what is there
-abbrev pub owner_place : Image → ℕ → AbstractState → Operand → (would_do : Bool) → List ℕ
-owner_place p m sh x would_do = operand_words x ++ (sure_words (held p m sh x) ++ (operand_clause p m sh x ++ ask_words would_do x))
+abbrev pub owner_place : Names → Image → ℕ → AbstractState → Operand → (would_do : Bool) → List ℕ
+owner_place ns p m sh x would_do = operand_words x ++ (sure_words (held p m sh x) ++ (operand_clause ns p m sh x ++ ask_words would_do x))
 
-abbrev pub owner_need : Image → ℕ → AbstractState → Operand → Thing → List ℕ
-owner_need p m sh x t = thing_words t ++ owner_place p m sh x (may_stand p t (held p m sh x))
+abbrev pub owner_need : Names → Image → ℕ → AbstractState → Operand → Thing → List ℕ
+owner_need ns p m sh x t = thing_words ns t ++ owner_place ns p m sh x (may_stand p t (held p m sh x))
 
-abbrev pub object_need : Image → ℕ → AbstractState → (register : ℕ) → List ℕ
-object_need p m sh r = codes "an object" ++ owner_place p m sh (operands.Register r) (may_be_object (register sh r))
+abbrev pub object_need : Names → Image → ℕ → AbstractState → (register : ℕ) → List ℕ
+object_need ns p m sh r = codes "an object" ++ owner_place ns p m sh (operands.Register r) (may_be_object (register sh r))
 
-abbrev pub owner_or_null : Thing → (number : ℕ) → Kind → List ℕ
-owner_or_null t r k = thing_words t ++ register_need (codes " or null in r") r k
+abbrev pub owner_or_null : Names → Thing → (number : ℕ) → Kind → List ℕ
+owner_or_null ns t r k = thing_words ns t ++ register_need ns (codes " or null in r") r k
 
 -- ---- methods and classes
 
 -- a number within words
 abbrev pub numbered : (lead : List ℕ) → ℕ → (rest : List ℕ) → List ℕ
 numbered lead n rest = lead ++ (decimal n ++ rest)
+
+-- a method within words
+abbrev pub method_need : Names → (lead : List ℕ) → ℕ → (rest : List ℕ) → List ℕ
+method_need ns lead m' rest = lead ++ (label ns.methods (codes "m") m' ++ rest)
 
 abbrev pub two_numbers : (lead : List ℕ) → ℕ → (between : List ℕ) → ℕ → (rest : List ℕ) → List ℕ
 two_numbers lead n between k rest = lead ++ (decimal n ++ (between ++ (decimal k ++ rest)))
@@ -195,34 +203,34 @@ allowed_words allowed = codes "the request in " ++ set_words allowed
 abbrev pub states_need : (allowed : ℕ) → (rest : List ℕ) → (states : ℕ) → List ℕ
 states_need allowed rest states = allowed_words allowed ++ states_clause rest states
 
-abbrev pub begin_words : ℕ → List ℕ
-begin_words m' = numbered (codes " alone, where m") m' (codes " begins")
+abbrev pub begin_words : Names → ℕ → List ℕ
+begin_words ns m' = method_need ns (codes " alone, where ") m' (codes " begins")
 
 -- ---- all
 
-module _ (p : Image) (m : ℕ) (sh : AbstractState) where
+module _ (ns : Names) (p : Image) (m : ℕ) (sh : AbstractState) where
   abbrev pub need_words : Wanted → List ℕ
-  need_words (want.Word r) = register_need (codes "a word in r") r (register sh r)
-  need_words (want.Unowning r) = unowning_need r (register sh r)
-  need_words (want.ObjectOrNull r) = register_need (codes "an object, a message or null in r") r (register sh r)
-  need_words (want.Deletable r) = register_need (codes "an object or null in r") r (register sh r)
-  need_words (want.Pushable r) = object_need p m sh r
-  need_words (want.Owner x t) = owner_need p m sh x t
-  need_words (want.OwnerOrNull r t) = owner_or_null t r (register sh r)
+  need_words (want.Word r) = register_need ns (codes "a word in r") r (register sh r)
+  need_words (want.Unowning r) = unowning_need ns r (register sh r)
+  need_words (want.ObjectOrNull r) = register_need ns (codes "an object, a message or null in r") r (register sh r)
+  need_words (want.Deletable r) = register_need ns (codes "an object or null in r") r (register sh r)
+  need_words (want.Pushable r) = object_need ns p m sh r
+  need_words (want.Owner x t) = owner_need ns p m sh x t
+  need_words (want.OwnerOrNull r t) = owner_or_null ns t r (register sh r)
   need_words (want.ObjectWord w) = word_need p m w
   need_words (want.Field f) = numbered (codes "a field f") f (codes " of the method's object; none of that number is declared")
-  need_words (want.MethodOfObjects m') = numbered (codes "a method that works on an object; m") m' (codes " works on none: call it on self")
-  need_words (want.OwnObject m') = numbered (codes "a method that works on the method's own object; m") m' (codes " works on another")
+  need_words (want.MethodOfObjects m') = method_need ns (codes "a method that works on an object; ") m' (codes " works on none: call it on self")
+  need_words (want.OwnObject m') = method_need ns (codes "a method that works on the method's own object; ") m' (codes " works on another")
   need_words (want.NoArgument r first m') = numbered (codes "an object that is no argument; r") r (codes " is one too")
   need_words (want.Arguments m' first) = arguments_need p m' first
-  need_words (want.ResultRegister m' c) = unowning_need c (register sh c)
+  need_words (want.ResultRegister m' c) = unowning_need ns c (register sh c)
   need_words (want.NoResult a) = numbered (codes "ret alone, as the method gives nothing back in a register; r") a (codes " is named")
   need_words want.LastObject = codes "an object as the last cleanup entry, c0; it is an operation: popop takes that down"
   need_words want.LastOperation = codes "an operation as the last cleanup entry, c0; it is an object: pop or popdel takes that down"
   need_words want.Service = codes "a service method; it is of another role"
   need_words want.Message = codes "the message of the service; it has been taken"
   need_words (want.OfClass need) = class_words need ++ class_clause (own_kind p m)
-  need_words (want.Begin m' target) = states_need (before_of p m') (begin_words m') (called_in p m' target sh.states)
+  need_words (want.Begin m' target) = states_need (before_of p m') (begin_words ns m') (called_in p m' target sh.states)
   need_words want.End = states_need (after_of p m) (codes " alone, where the method ends") sh.states
   need_words want.Cancelling = states_need cancelling (codes " alone, in the cancel method") sh.states
   need_words want.Inactive = states_clause (codes "the request not active") sh.states ++ codes ": cancel it before"
@@ -235,27 +243,39 @@ module _ (p : Image) (m : ℕ) (sh : AbstractState) where
   sentence_of (Some w) = sentence w
 
 -- in the state once the arguments have moved
-abbrev pub moved_sentence : Image → ℕ → AbstractState → Instr → List ℕ
-moved_sentence p m sh i = sentence_of p m sh (first_unmet p m sh (moved_wanted i))
+abbrev pub moved_sentence : Names → Image → ℕ → AbstractState → Instr → List ℕ
+moved_sentence ns p m sh i = sentence_of ns p m sh (first_unmet p m sh (moved_wanted i))
 
 -- the sentence of what is not met there, or else once the arguments have moved
-abbrev pub sentence_from : Image → ℕ → AbstractState → Instr → Option Wanted → List ℕ
-sentence_from p m sh i None = moved_sentence p m (moved p i sh) i
-sentence_from p m sh i (Some w) = sentence p m sh w
+abbrev pub sentence_from : Names → Image → ℕ → AbstractState → Instr → Option Wanted → List ℕ
+sentence_from ns p m sh i None = moved_sentence ns p m (moved p i sh) i
+sentence_from ns p m sh i (Some w) = sentence ns p m sh w
 
 -- the sentence of the first that is not met
-unfoldable pub needed_text : Image → ℕ → AbstractState → Instr → List ℕ
-needed_text p m sh i = sentence_from p m sh i (first_unmet p m sh (wanted p m i))
+unfoldable pub needed_text : Names → Image → ℕ → AbstractState → Instr → List ℕ
+needed_text ns p m sh i = sentence_from ns p m sh i (first_unmet p m sh (wanted p m i))
 
 -- what is said of an instruction that is refused for that reason
-abbrev pub needed_where : Bool → Image → ℕ → AbstractState → Instr → List ℕ
-needed_where true p m sh i = needed_text p m sh i
-needed_where false p m sh i = []
+abbrev pub needed_where : Names → Bool → Image → ℕ → AbstractState → Instr → List ℕ
+needed_where ns true p m sh i = needed_text ns p m sh i
+needed_where ns false p m sh i = []
 
-abbrev pub needed_in : Image → ℕ → AbstractState → Reason → Option Instr → List ℕ
-needed_in p m sh why None = []
-needed_in p m sh why (Some i) = needed_where (is_told why) p m sh i
+abbrev pub needed_in : Names → Image → ℕ → AbstractState → Reason → Option Instr → List ℕ
+needed_in ns p m sh why None = []
+needed_in ns p m sh why (Some i) = needed_where ns (is_told why) p m sh i
 
 -- what is said of a place that is refused for that reason
-abbrev pub needed_line : Image → (method place : ℕ) → AbstractState → Reason → List ℕ
-needed_line p m place sh why = needed_in p m sh why (instr_at p m place)
+abbrev pub needed_line : Names → Image → (method place : ℕ) → AbstractState → Reason → List ℕ
+needed_line ns p m place sh why = needed_in ns p m sh why (instr_at p m place)
+
+-- the first need that is not met there, where it is refused for such a reason
+abbrev pub first_where : Bool → Image → ℕ → AbstractState → Instr → Option Wanted
+first_where true p m sh i = first_unmet p m sh (wanted p m i)
+first_where false p m sh i = None
+
+abbrev pub first_in : Image → ℕ → AbstractState → Reason → Option Instr → Option Wanted
+first_in p m sh why None = None
+first_in p m sh why (Some i) = first_where (is_told why) p m sh i
+
+abbrev pub first_needed : Image → (method place : ℕ) → AbstractState → Reason → Option Wanted
+first_needed p m place sh why = first_in p m sh why (instr_at p m place)

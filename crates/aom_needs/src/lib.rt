@@ -3,7 +3,7 @@
 //! `Wanted` is a need as data. `specs/Asked.antt` lists those of each instruction, in the order in which its rule looks at them, of three
 //! reasons: a wrong kind, a request that is still active, and a wrong state of one. That these are just the rule's needs of these reasons,
 //! each about the operand that the rule looks at, is the law `needs_are_told`. `write_needed` writes the sentence of the first that is not met,
-//! as `specs/Sentences.antt` says. Nothing here decides whether an instruction is refused, nor for what reason.
+//! as `specs/Sentences.antt` says, and `first_needed` answers it. Nothing here decides whether an instruction is refused, nor for what reason.
 #![tactic(auto)]
 
 mod asked;
@@ -18,5 +18,5 @@ mod unmet;
 mod wanted;
 
 pub use laws::needs_are_told;
-pub use needed::write_needed;
+pub use needed::{first_needed, write_needed};
 pub use wanted::{ClassNeed, Operand, Wanted};

@@ -3,7 +3,7 @@ ghost use Rattle.std.specs.Prelude.{◌≡◌, ◌++◌, ◌+◌, ◌≤◌, Som
 ghost use Rattle.aom_image.specs.Views.{arguments_of, instr_at, method_at};
 ghost use Rattle.aom_instructions.specs.Table.{action_of};
 ghost use Rattle.aom_needs.specs.Asked.{moved, moved_by, wanted};
-ghost use Rattle.aom_needs.specs.Sentences.{moved_sentence, needed_line, needed_text, sentence_of};
+ghost use Rattle.aom_needs.specs.Sentences.{first_needed, moved_sentence, needed_line, needed_text, sentence_of};
 ghost use Rattle.aom_needs.specs.Wanted.{first_at};
 ghost use Rattle.aom_typing_rules.specs.Calls.{HasCodeRegister};
 
@@ -13,7 +13,7 @@ use crate::methods::arguments_of;
 use crate::sentences::write_sentence;
 use crate::unmet::is_told;
 use aom_abstract_state::{AbstractState, Reason};
-use aom_cost_report::FigureWriter;
+use aom_cost_report::{FigureWriter, Names};
 use aom_image::{Instr, MethodNumber, Register};
 use aom_linker::Linked;
 use aom_rule_context::RuleContext;
@@ -22,13 +22,14 @@ use std::alloc::AllocError;
 /// Writes the sentence of a need, if there is one.
 fn write_any(
     out: &mut FigureWriter,
+    names: &Names<'_>,
     site: &RuleContext<'_>,
     wanted: Option<Wanted>,
 ) -> Result<(), AllocError>
-    ensures { OnOk result (out.new ≡ out.old ++ sentence_of site.now.image site.now.method site.now.shape wanted) }
+    ensures { OnOk result (out.new ≡ out.old ++ sentence_of names.now site.now.image site.now.method site.now.shape wanted) }
 {
     match wanted {
-        Some(wanted) => write_sentence(out, site, wanted),
+        Some(wanted) => write_sentence(out, names, site, wanted),
         None => Ok(()),
     }
 }
@@ -36,6 +37,7 @@ fn write_any(
 /// Writes what is not met once the arguments of a method have moved.
 fn write_called(
     out: &mut FigureWriter,
+    names: &Names<'_>,
     site: &RuleContext<'_>,
     instr: Instr,
     callee: MethodNumber,
@@ -43,26 +45,27 @@ fn write_called(
 ) -> Result<(), AllocError>
     requires within { first + length (arguments_of site.now.image callee) ≤ 16 }
     requires code { HasCodeRegister (action_of instr) }
-    ensures { OnOk result (out.new ≡ out.old ++ moved_sentence site.now.image site.now.method (moved_by site.now.image callee first site.now.shape) instr) }
+    ensures { OnOk result (out.new ≡ out.old ++ moved_sentence names.now site.now.image site.now.method (moved_by site.now.image callee first site.now.shape) instr) }
 {
     let arguments = arguments_of(site.linked, callee);
     let shape = site.shape.without_arguments(arguments, first);
     let after = RuleContext::new(site.linked, site.method, site.place, &shape);
-    write_any(out, &after, unmet_moved(&after, instr))
+    write_any(out, names, &after, unmet_moved(&after, instr))
 }
 
 fn write_moved(
     out: &mut FigureWriter,
+    names: &Names<'_>,
     site: &RuleContext<'_>,
     instr: Instr,
 ) -> Result<(), AllocError>
     requires met { first_at site.now (wanted site.now.image site.now.method instr) ≡ None }
     requires code { HasCodeRegister (action_of instr) }
-    ensures { OnOk result (out.new ≡ out.old ++ moved_sentence site.now.image site.now.method (moved site.now.image instr site.now.shape) instr) }
+    ensures { OnOk result (out.new ≡ out.old ++ moved_sentence names.now site.now.image site.now.method (moved site.now.image instr site.now.shape) instr) }
 {
     match instr {
-        Instr::Call(_, callee, first, _) => write_called(out, site, instr, callee, first),
-        Instr::Trap(_, callee, first, _) => write_called(out, site, instr, callee, first),
+        Instr::Call(_, callee, first, _) => write_called(out, names, site, instr, callee, first),
+        Instr::Trap(_, callee, first, _) => write_called(out, names, site, instr, callee, first),
         _ => Ok(()),
     }
 }
@@ -70,15 +73,16 @@ fn write_moved(
 #[tactic(auto, unfolding(crate::specs::Sentences::needed_text))]
 fn write_first(
     out: &mut FigureWriter,
+    names: &Names<'_>,
     site: &RuleContext<'_>,
     instr: &Instr,
 ) -> Result<(), AllocError>
     requires { HasCodeRegister (action_of instr.now) }
-    ensures { OnOk result (out.new ≡ out.old ++ needed_text site.now.image site.now.method site.now.shape instr.now) }
+    ensures { OnOk result (out.new ≡ out.old ++ needed_text names.now site.now.image site.now.method site.now.shape instr.now) }
 {
     match unmet(site, *instr) {
-        Some(wanted) => write_sentence(out, site, wanted),
-        None => write_moved(out, site, *instr),
+        Some(wanted) => write_sentence(out, names, site, wanted),
+        None => write_moved(out, names, site, *instr),
     }
 }
 
@@ -96,6 +100,7 @@ fn instr_at(linked: &Linked, method: MethodNumber, place: usize) -> Instr
 /// Writes the sentence of the first need that the instruction at a place does not meet, if it is refused for a reason that is told.
 pub fn write_needed(
     out: &mut FigureWriter,
+    names: &Names<'_>,
     linked: &Linked,
     method: MethodNumber,
     place: usize,
@@ -103,12 +108,36 @@ pub fn write_needed(
     why: Reason,
 ) -> Result<(), AllocError>
     requires { IsSome (instr_at linked.now method place) }
-    ensures { OnOk result (out.new ≡ out.old ++ needed_line linked.now method place shape.now why) }
+    ensures { OnOk result (out.new ≡ out.old ++ needed_line names.now linked.now method place shape.now why) }
 {
     let instr = instr_at(linked, method, place);
     if !is_told(why) {
         return Ok(());
     }
     // None of these needs looks at the place.
-    write_first(out, &RuleContext::new(linked, method, 0, shape), &instr)
+    write_first(
+        out,
+        names,
+        &RuleContext::new(linked, method, 0, shape),
+        &instr,
+    )
+}
+
+/// The first need that the instruction at a place does not meet, if it is refused for a reason that is told: of what is there before its arguments
+/// move.
+pub fn first_needed(
+    linked: &Linked,
+    method: MethodNumber,
+    place: usize,
+    shape: &AbstractState<'_>,
+    why: Reason,
+) -> Option<Wanted>
+    requires { IsSome (instr_at linked.now method place) }
+    ensures { result ≡ first_needed linked.now method place shape.now why }
+{
+    let instr = instr_at(linked, method, place);
+    if !is_told(why) {
+        return None;
+    }
+    unmet(&RuleContext::new(linked, method, 0, shape), instr)
 }

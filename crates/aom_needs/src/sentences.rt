@@ -2,7 +2,7 @@
 ghost use Rattle.std.specs.Prelude.{◌≡◌, ◌++◌, OnOk, codes, length};
 ghost use Rattle.aom_image.specs.Views.{arguments_of};
 ghost use Rattle.aom_abstract_state.specs.Kinds.{register};
-ghost use Rattle.aom_needs.specs.Sentences.{arguments_need, ask_of, ask_words, class_clause, class_words, entry_clause, kind_clause, need_words, numbered, object_need, operand_clause, operand_words, owner_need, owner_place, owner_or_null, provider_clause, pushed_clause, register_need, rid_of, rid_words, sentence, states_clause, sure_words, thing_words, two_numbers, unowning_need, word_need};
+ghost use Rattle.aom_needs.specs.Sentences.{arguments_need, ask_of, ask_words, class_clause, class_named, class_words, entry_clause, kind_clause, method_need, need_words, numbered, object_need, operand_clause, operand_words, owner_need, owner_place, owner_or_null, provider_clause, pushed_clause, register_need, rid_of, rid_words, sentence, states_clause, sure_words, thing_words, two_numbers, unowning_need, word_need};
 ghost use Rattle.aom_roles.specs.Things.{holder_of, word_count};
 ghost use Rattle.aom_typing_rules.specs.Requests.{own_kind};
 
@@ -13,71 +13,105 @@ use crate::states::{write_begin, write_states_clause, write_states_need};
 use crate::unmet::cancelling;
 use crate::{ClassNeed, Operand, Wanted};
 use aom_abstract_state::{AbstractState, CleanupEntry, Kind};
-use aom_cost_report::FigureWriter;
+use aom_cost_report::{FigureWriter, Names};
 use aom_image::{
-    ClassKind, FieldIndex, MethodNumber, Provider, Register, States, Thing, WordIndex,
+    ClassKind, ClassNumber, FieldIndex, MethodNumber, Provider, Register, States, Thing, WordIndex,
 };
 use aom_rule_context::RuleContext;
 use std::alloc::AllocError;
 
-fn write_thing(out: &mut FigureWriter, thing: Thing) -> Result<(), AllocError>
-    ensures { OnOk result (out.new ≡ out.old ++ thing_words thing) }
+fn write_class(
+    out: &mut FigureWriter,
+    names: &Names<'_>,
+    class: ClassNumber,
+) -> Result<(), AllocError>
+    ensures { OnOk result (out.new ≡ out.old ++ class_named names.now class) }
+{
+    out.words(b"an object of class ")?;
+    names.write_class(out, b"", class)
+}
+
+fn write_thing(out: &mut FigureWriter, names: &Names<'_>, thing: Thing) -> Result<(), AllocError>
+    ensures { OnOk result (out.new ≡ out.old ++ thing_words names.now thing) }
 {
     match thing {
-        Thing::Object(class) => out.count(b"an object of class ", u64::from(class.number())),
+        Thing::Object(class) => write_class(out, names, class),
         Thing::Message => out.words(b"a message"),
     }
 }
 
-fn write_owned(out: &mut FigureWriter, lead: &[u8], thing: Thing) -> Result<(), AllocError>
-    ensures { OnOk result (out.new ≡ out.old ++ (lead.now ++ thing_words thing)) }
+fn write_owned(
+    out: &mut FigureWriter,
+    names: &Names<'_>,
+    lead: &[u8],
+    thing: Thing,
+) -> Result<(), AllocError>
+    ensures { OnOk result (out.new ≡ out.old ++ (lead.now ++ thing_words names.now thing)) }
 {
     out.words(lead)?;
-    write_thing(out, thing)
+    write_thing(out, names, thing)
 }
 
 /// Writes what is there.
-fn write_kind_clause(out: &mut FigureWriter, kind: Kind) -> Result<(), AllocError>
-    ensures { OnOk result (out.new ≡ out.old ++ kind_clause kind) }
+fn write_kind_clause(
+    out: &mut FigureWriter,
+    names: &Names<'_>,
+    kind: Kind,
+) -> Result<(), AllocError>
+    ensures { OnOk result (out.new ≡ out.old ++ kind_clause names.now kind) }
 {
     match kind {
         Kind::Unset => out.words(b"; it is unset"),
         Kind::Word => out.words(b"; it is a word"),
         Kind::Null => out.words(b"; it is null"),
-        Kind::Own(thing, _) => write_owned(out, b"; it owns ", thing),
-        Kind::Maybe(thing, _) => write_owned(out, b"; it is null, or owns ", thing),
+        Kind::Own(thing, _) => write_owned(out, names, b"; it owns ", thing),
+        Kind::Maybe(thing, _) => write_owned(out, names, b"; it is null, or owns ", thing),
     }
 }
 
-fn write_pushed_clause(out: &mut FigureWriter, entry: CleanupEntry) -> Result<(), AllocError>
-    ensures { OnOk result (out.new ≡ out.old ++ pushed_clause entry) }
+fn write_pushed_clause(
+    out: &mut FigureWriter,
+    names: &Names<'_>,
+    entry: CleanupEntry,
+) -> Result<(), AllocError>
+    ensures { OnOk result (out.new ≡ out.old ++ pushed_clause names.now entry) }
 {
     match entry {
         CleanupEntry::Operation => out.words(b"; it is an operation"),
-        CleanupEntry::Object(class, _) => write_owned(out, b"; it owns ", Thing::Object(class)),
+        CleanupEntry::Object(class, _) => write_owned(
+            out,
+            names,
+            b"; it owns ",
+            Thing::Object(class),
+        ),
     }
 }
 
-fn write_entry_clause(out: &mut FigureWriter, entry: Option<CleanupEntry>) -> Result<(), AllocError>
-    ensures { OnOk result (out.new ≡ out.old ++ entry_clause entry) }
+fn write_entry_clause(
+    out: &mut FigureWriter,
+    names: &Names<'_>,
+    entry: Option<CleanupEntry>,
+) -> Result<(), AllocError>
+    ensures { OnOk result (out.new ≡ out.old ++ entry_clause names.now entry) }
 {
     match entry {
         None => out.words(b"; it is not there"),
-        Some(entry) => write_pushed_clause(out, entry),
+        Some(entry) => write_pushed_clause(out, names, entry),
     }
 }
 
 /// Writes a need of a register, and what that holds.
 fn write_register_need(
     out: &mut FigureWriter,
+    names: &Names<'_>,
     lead: &[u8],
     number: u8,
     kind: Kind,
 ) -> Result<(), AllocError>
-    ensures { OnOk result (out.new ≡ out.old ++ register_need lead.now number kind) }
+    ensures { OnOk result (out.new ≡ out.old ++ register_need names.now lead.now number kind) }
 {
     out.count(lead, u64::from(number))?;
-    write_kind_clause(out, kind)
+    write_kind_clause(out, names, kind)
 }
 
 /// Writes how to be rid of an owner.
@@ -99,10 +133,15 @@ fn write_rid(out: &mut FigureWriter, kind: Kind) -> Result<(), AllocError>
     }
 }
 
-fn write_unowning_need(out: &mut FigureWriter, number: u8, kind: &Kind) -> Result<(), AllocError>
-    ensures { OnOk result (out.new ≡ out.old ++ unowning_need number kind.now) }
+fn write_unowning_need(
+    out: &mut FigureWriter,
+    names: &Names<'_>,
+    number: u8,
+    kind: &Kind,
+) -> Result<(), AllocError>
+    ensures { OnOk result (out.new ≡ out.old ++ unowning_need names.now number kind.now) }
 {
-    write_register_need(out, b"nothing owned in r", number, *kind)?;
+    write_register_need(out, names, b"nothing owned in r", number, *kind)?;
     write_rid(out, *kind)
 }
 
@@ -128,16 +167,17 @@ fn write_sure(out: &mut FigureWriter, kind: Kind) -> Result<(), AllocError>
 
 fn write_operand_clause(
     out: &mut FigureWriter,
+    names: &Names<'_>,
     site: &RuleContext<'_>,
     operand: Operand,
 ) -> Result<(), AllocError>
-    ensures { OnOk result (out.new ≡ out.old ++ operand_clause site.now.image site.now.method site.now.shape operand) }
+    ensures { OnOk result (out.new ≡ out.old ++ operand_clause names.now site.now.image site.now.method site.now.shape operand) }
 {
     match operand {
-        Operand::Register(_) => write_kind_clause(out, held(site, operand)),
-        Operand::Field(_) => write_kind_clause(out, held(site, operand)),
+        Operand::Register(_) => write_kind_clause(out, names, held(site, operand)),
+        Operand::Field(_) => write_kind_clause(out, names, held(site, operand)),
         Operand::Entry(number) => {
-            write_entry_clause(out, site.shape.entry(number.number() as usize))
+            write_entry_clause(out, names, site.shape.entry(number.number() as usize))
         }
     }
 }
@@ -166,53 +206,57 @@ fn write_ask(out: &mut FigureWriter, would_do: bool, operand: Operand) -> Result
 /// Writes where an owner is needed, and what is there.
 fn write_owner_at(
     out: &mut FigureWriter,
+    names: &Names<'_>,
     site: &RuleContext<'_>,
     operand: &Operand,
     would_do: bool,
 ) -> Result<(), AllocError>
-    ensures { OnOk result (out.new ≡ out.old ++ owner_place site.now.image site.now.method site.now.shape operand.now would_do) }
+    ensures { OnOk result (out.new ≡ out.old ++ owner_place names.now site.now.image site.now.method site.now.shape operand.now would_do) }
 {
     write_operand(out, *operand)?;
     write_sure(out, held(site, *operand))?;
-    write_operand_clause(out, site, *operand)?;
+    write_operand_clause(out, names, site, *operand)?;
     write_ask(out, would_do, *operand)
 }
 
 fn write_owner(
     out: &mut FigureWriter,
+    names: &Names<'_>,
     site: &RuleContext<'_>,
     operand: &Operand,
     thing: &Thing,
 ) -> Result<(), AllocError>
-    ensures { OnOk result (out.new ≡ out.old ++ owner_need site.now.image site.now.method site.now.shape operand.now thing.now) }
+    ensures { OnOk result (out.new ≡ out.old ++ owner_need names.now site.now.image site.now.method site.now.shape operand.now thing.now) }
 {
     let would_do = may_stand(site.linked, *thing, held(site, *operand));
-    write_thing(out, *thing)?;
-    write_owner_at(out, site, operand, would_do)
+    write_thing(out, names, *thing)?;
+    write_owner_at(out, names, site, operand, would_do)
 }
 
 fn write_object(
     out: &mut FigureWriter,
+    names: &Names<'_>,
     site: &RuleContext<'_>,
     r: Register,
 ) -> Result<(), AllocError>
-    ensures { OnOk result (out.new ≡ out.old ++ object_need site.now.image site.now.method site.now.shape r) }
+    ensures { OnOk result (out.new ≡ out.old ++ object_need names.now site.now.image site.now.method site.now.shape r) }
 {
     let would_do = may_be_object(site.shape.register(r));
     out.words(b"an object")?;
-    write_owner_at(out, site, &Operand::Register(r), would_do)
+    write_owner_at(out, names, site, &Operand::Register(r), would_do)
 }
 
 fn write_owner_or_null(
     out: &mut FigureWriter,
+    names: &Names<'_>,
     thing: Thing,
     number: u8,
     kind: Kind,
 ) -> Result<(), AllocError>
-    ensures { OnOk result (out.new ≡ out.old ++ owner_or_null thing number kind) }
+    ensures { OnOk result (out.new ≡ out.old ++ owner_or_null names.now thing number kind) }
 {
-    write_thing(out, thing)?;
-    write_register_need(out, b" or null in r", number, kind)
+    write_thing(out, names, thing)?;
+    write_register_need(out, names, b" or null in r", number, kind)
 }
 
 /// Writes a number within words.
@@ -230,13 +274,16 @@ fn write_numbered(
 
 fn write_method_need(
     out: &mut FigureWriter,
+    names: &Names<'_>,
     lead: &[u8],
     method: MethodNumber,
     rest: &[u8],
 ) -> Result<(), AllocError>
-    ensures { OnOk result (out.new ≡ out.old ++ numbered lead.now method rest.now) }
+    ensures { OnOk result (out.new ≡ out.old ++ method_need names.now lead.now method rest.now) }
 {
-    write_numbered(out, lead, u64::from(method.number()), rest)
+    out.words(lead)?;
+    names.write_method(out, b"m", method)?;
+    out.words(rest)
 }
 
 /// Writes two numbers within words.
@@ -329,18 +376,26 @@ fn write_field(out: &mut FigureWriter, field: FieldIndex) -> Result<(), AllocErr
     write_numbered(out, b"a field f", u64::from(field.number()), rest)
 }
 
-fn write_static(out: &mut FigureWriter, method: MethodNumber) -> Result<(), AllocError>
-    ensures { OnOk result (out.new ≡ out.old ++ numbered (codes "a method that works on an object; m") method (codes " works on none: call it on self")) }
+fn write_static(
+    out: &mut FigureWriter,
+    names: &Names<'_>,
+    method: MethodNumber,
+) -> Result<(), AllocError>
+    ensures { OnOk result (out.new ≡ out.old ++ method_need names.now (codes "a method that works on an object; ") method (codes " works on none: call it on self")) }
 {
-    let lead = b"a method that works on an object; m";
-    write_method_need(out, lead, method, b" works on none: call it on self")
+    let lead = b"a method that works on an object; ";
+    write_method_need(out, names, lead, method, b" works on none: call it on self")
 }
 
-fn write_foreign(out: &mut FigureWriter, method: MethodNumber) -> Result<(), AllocError>
-    ensures { OnOk result (out.new ≡ out.old ++ numbered (codes "a method that works on the method's own object; m") method (codes " works on another")) }
+fn write_foreign(
+    out: &mut FigureWriter,
+    names: &Names<'_>,
+    method: MethodNumber,
+) -> Result<(), AllocError>
+    ensures { OnOk result (out.new ≡ out.old ++ method_need names.now (codes "a method that works on the method's own object; ") method (codes " works on another")) }
 {
-    let lead = b"a method that works on the method's own object; m";
-    write_method_need(out, lead, method, b" works on another")
+    let lead = b"a method that works on the method's own object; ";
+    write_method_need(out, names, lead, method, b" works on another")
 }
 
 fn write_argument(out: &mut FigureWriter, r: Register) -> Result<(), AllocError>
@@ -387,62 +442,66 @@ fn write_inactive(out: &mut FigureWriter, states: States) -> Result<(), AllocErr
 /// Writes a need of a register and what it holds at that place.
 fn write_held_need(
     out: &mut FigureWriter,
+    names: &Names<'_>,
     lead: &[u8],
     shape: &AbstractState<'_>,
     r: Register,
 ) -> Result<(), AllocError>
-    ensures { OnOk result (out.new ≡ out.old ++ register_need lead.now r (register shape.now r)) }
+    ensures { OnOk result (out.new ≡ out.old ++ register_need names.now lead.now r (register shape.now r)) }
 {
-    write_register_need(out, lead, r.number(), shape.register(r))
+    write_register_need(out, names, lead, r.number(), shape.register(r))
 }
 
 fn write_held_unowning(
     out: &mut FigureWriter,
+    names: &Names<'_>,
     shape: &AbstractState<'_>,
     r: Register,
 ) -> Result<(), AllocError>
-    ensures { OnOk result (out.new ≡ out.old ++ unowning_need r (register shape.now r)) }
+    ensures { OnOk result (out.new ≡ out.old ++ unowning_need names.now r (register shape.now r)) }
 {
-    write_unowning_need(out, r.number(), &shape.register(r))
+    write_unowning_need(out, names, r.number(), &shape.register(r))
 }
 
 fn write_held_or_null(
     out: &mut FigureWriter,
+    names: &Names<'_>,
     shape: &AbstractState<'_>,
     r: Register,
     thing: Thing,
 ) -> Result<(), AllocError>
-    ensures { OnOk result (out.new ≡ out.old ++ owner_or_null thing r (register shape.now r)) }
+    ensures { OnOk result (out.new ≡ out.old ++ owner_or_null names.now thing r (register shape.now r)) }
 {
-    write_owner_or_null(out, thing, r.number(), shape.register(r))
+    write_owner_or_null(out, names, thing, r.number(), shape.register(r))
 }
 
 fn write_need(
     out: &mut FigureWriter,
+    names: &Names<'_>,
     site: &RuleContext<'_>,
     wanted: Wanted,
 ) -> Result<(), AllocError>
-    ensures { OnOk result (out.new ≡ out.old ++ need_words site.now.image site.now.method site.now.shape wanted) }
+    ensures { OnOk result (out.new ≡ out.old ++ need_words names.now site.now.image site.now.method site.now.shape wanted) }
 {
     let linked = site.linked;
     let shape = site.shape;
     match wanted {
-        Wanted::Word(r) => write_held_need(out, b"a word in r", shape, r),
-        Wanted::Unowning(r) => write_held_unowning(out, shape, r),
+        Wanted::Word(r) => write_held_need(out, names, b"a word in r", shape, r),
+        Wanted::Unowning(r) => write_held_unowning(out, names, shape, r),
         Wanted::ObjectOrNull(r) => {
-            write_held_need(out, b"an object, a message or null in r", shape, r)
+            write_held_need(out, names, b"an object, a message or null in r", shape, r)
         }
-        Wanted::Deletable(r) => write_held_need(out, b"an object or null in r", shape, r),
-        Wanted::Pushable(r) => write_object(out, site, r),
-        Wanted::Owner(operand, thing) => write_owner(out, site, &operand, &thing),
-        Wanted::OwnerOrNull(r, thing) => write_held_or_null(out, shape, r, thing),
+        Wanted::Deletable(r) => write_held_need(out, names, b"an object or null in r", shape, r),
+        Wanted::Pushable(r) => write_object(out, names, site, r),
+        Wanted::Owner(operand, thing) => write_owner(out, names, site, &operand, &thing),
+        Wanted::OwnerOrNull(r, thing) => write_held_or_null(out, names, shape, r, thing),
         Wanted::ObjectWord(w) => write_object_word(out, site, w),
         Wanted::Field(f) => write_field(out, f),
-        Wanted::MethodOfObjects(callee) => write_static(out, callee),
-        Wanted::OwnObject(callee) => write_foreign(out, callee),
+        Wanted::MethodOfObjects(callee) => write_static(out, names, callee),
+        Wanted::OwnObject(callee) => write_foreign(out, names, callee),
         Wanted::NoArgument(r, _, _) => write_argument(out, r),
         Wanted::Arguments(callee, first) => write_arguments(out, site, callee, first),
-        Wanted::ResultRegister(_, c) => write_held_unowning(out, shape, c),
+        Wanted::ResultRegister(_, c) => write_held_unowning(out, names, shape, c),
         Wanted::NoResult(a) => write_no_result(out, a),
         Wanted::LastObject => out.words(
             b"an object as the last cleanup entry, c0; it is an operation: popop takes that down",
@@ -455,6 +514,7 @@ fn write_need(
         Wanted::OfClass(need) => write_class_need(out, need, own_kind(site)),
         Wanted::Begin(callee, target) => write_begin(
             out,
+            names,
             callee,
             before_of(linked, callee),
             called_in(linked, callee, target, shape.states()),
@@ -478,12 +538,13 @@ fn write_need(
 #[tactic(auto, unfolding(crate::specs::Sentences::sentence))]
 pub(crate) fn write_sentence(
     out: &mut FigureWriter,
+    names: &Names<'_>,
     site: &RuleContext<'_>,
     wanted: Wanted,
 ) -> Result<(), AllocError>
-    ensures { OnOk result (out.new ≡ out.old ++ sentence site.now.image site.now.method site.now.shape wanted) }
+    ensures { OnOk result (out.new ≡ out.old ++ sentence names.now site.now.image site.now.method site.now.shape wanted) }
 {
     out.words(b"Needed: ")?;
-    write_need(out, site, wanted)?;
+    write_need(out, names, site, wanted)?;
     out.words(b"\n")
 }

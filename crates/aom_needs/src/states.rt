@@ -3,7 +3,7 @@ ghost use Rattle.std.specs.Prelude.{◌≡◌, ◌++◌, OnOk};
 ghost use Rattle.aom_image.specs.Views.{has};
 ghost use Rattle.aom_needs.specs.Sentences.{allowed_words, begin_words, letter_where, letters, may_be_words, set_words, states_clause, states_need};
 
-use aom_cost_report::FigureWriter;
+use aom_cost_report::{FigureWriter, Names};
 use aom_image::{MethodNumber, States};
 use bitflags::Flags;
 use std::alloc::AllocError;
@@ -86,23 +86,29 @@ pub(crate) fn write_states_need(
     write_states_clause(out, rest, states)
 }
 
-fn write_begin_words(out: &mut FigureWriter, method: MethodNumber) -> Result<(), AllocError>
-    ensures { OnOk result (out.new ≡ out.old ++ begin_words method) }
+fn write_begin_words(
+    out: &mut FigureWriter,
+    names: &Names<'_>,
+    method: MethodNumber,
+) -> Result<(), AllocError>
+    ensures { OnOk result (out.new ≡ out.old ++ begin_words names.now method) }
 {
-    out.count(b" alone, where m", u64::from(method.number()))?;
+    out.words(b" alone, where ")?;
+    names.write_method(out, b"m", method)?;
     out.words(b" begins")
 }
 
 /// Writes in which states that method begins, and in which the request may be.
 pub(crate) fn write_begin(
     out: &mut FigureWriter,
+    names: &Names<'_>,
     method: MethodNumber,
     before: States,
     states: States,
 ) -> Result<(), AllocError>
-    ensures { OnOk result (out.new ≡ out.old ++ states_need before.0 (begin_words method) states.0) }
+    ensures { OnOk result (out.new ≡ out.old ++ states_need before.0 (begin_words names.now method) states.0) }
 {
     write_allowed(out, before)?;
-    write_begin_words(out, method)?;
+    write_begin_words(out, names, method)?;
     write_may_be(out, states)
 }

@@ -1,3 +1,4 @@
 pub mod Budgets
+pub mod Listing
 pub mod Map
 pub mod Refusals

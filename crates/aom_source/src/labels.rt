@@ -1,6 +1,7 @@
 //! The names of methods in the assembly text.
 use crate::ordering::listed_methods;
-use aom_source_program::{Body, Fault, MethodId, Program, Role};
+use aom_source_listing::numbered_label;
+use aom_source_program::{Body, Fault, MethodId, Program};
 
 /// The most bytes of a name.
 const MOST: usize = 32;
@@ -41,9 +42,6 @@ fn plain_name<'a>(program: &Program<'a>, id: MethodId) -> Result<Vec<u8>, Fault<
     }
     name.extend_from_slice(method.name)?;
     name.truncate(MOST);
-    if method.role != Role::Main && !aom_text::is_name(&name) {
-        name.extend_from_slice(b"_")?;
-    }
     Ok(name)
 }
 
@@ -54,17 +52,16 @@ fn is_taken(program: &Program<'_>, name: &Vec<u8>) -> bool {
         .any(|method| method.label.as_slice() == name.as_slice())
 }
 
-fn free_name<'a>(program: &Program<'a>, name: Vec<u8>, used: usize) -> Result<Vec<u8>, Fault<'a>> {
-    let mut free = name;
-    let mut number = used;
+fn free_name<'a>(program: &Program<'a>, label: Vec<u8>, used: usize) -> Result<Vec<u8>, Fault<'a>> {
+    if !is_taken(program, &label) {
+        return Ok(label);
+    }
+    let mut number = used as u64;
     for _ in 0..=program.methods.len() {
-        if !is_taken(program, &free) {
-            return Ok(free);
+        let numbered = numbered_label(program.alloc, &label, number)?;
+        if !is_taken(program, &numbered) {
+            return Ok(numbered);
         }
-        free.truncate(28);
-        free.extend_from_slice(b"_")?;
-        let mut buffer = itoa::Buffer::new();
-        free.extend_from_slice(buffer.format(number).as_bytes())?;
         number = number.saturating_add(1);
     }
     Err(Fault::internal())

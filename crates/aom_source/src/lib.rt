@@ -5,6 +5,7 @@
 
 mod driving;
 mod labels;
+mod listing;
 mod naming;
 mod ordering;
 mod refusal;

@@ -146,8 +146,7 @@ impl<'s, 'a> Ordering<'s, 'a> {
             return Ok(());
         }
         if self.marks[method.0] == 1 {
-            let found = self.program.method(method)?;
-            return Err(Fault::at(FaultKind::Recursion, found.token).about(found.name));
+            return Err(self.goes_round(method)?);
         }
         self.marks[method.0] = 1;
         waiting.push(Waiting {
@@ -156,6 +155,16 @@ impl<'s, 'a> Ordering<'s, 'a> {
             done: 0,
         })?;
         Ok(())
+    }
+
+    /// The fault of a method that would stand before itself; a destructor does so where its class owns its like.
+    fn goes_round(&self, method: MethodId) -> Result<Fault<'a>, Fault<'a>> {
+        let found = self.program.method(method)?;
+        if let (Role::Destruct, Some(class)) = (found.role, found.class) {
+            let class = self.program.class(class)?;
+            return Ok(Fault::at(FaultKind::ClassCycle, class.token).about(class.name));
+        }
+        Ok(Fault::at(FaultKind::Recursion, found.token).about(found.name))
     }
 
     /// What stands before a method.
@@ -285,7 +294,10 @@ impl<'s, 'a> Ordering<'s, 'a> {
                 return Ok(());
             };
             if let Some(method) = self.program.class(at)?.role(Role::Destruct) {
-                if method != id && !found.contains(&method) {
+                if method == id {
+                    return Err(self.goes_round(id)?);
+                }
+                if !found.contains(&method) {
                     found.push(method)?;
                 }
             }

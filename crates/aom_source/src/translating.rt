@@ -2,14 +2,15 @@
 ghost use Rattle.std.specs.Prelude.{◌≡◌, All, IfErr, IfOk, List, Ok, length, min, ℕ};
 ghost use Rattle.aom_asm.specs.Denoted.{denoted};
 ghost use Rattle.aom_source.specs.Budgets.{IsCostOfMain};
+ghost use Rattle.aom_source.specs.Listing.{HasClassNames, HasMemberNames, HasMethodNames};
 ghost use Rattle.aom_source.specs.Map.{IsNamed, line_count};
 ghost use Rattle.aom_source.specs.Refusals.{IsToldIn};
 
 use crate::driving::Driving;
 use crate::labels::name_methods;
+use crate::listing::{MOST_BYTES, are_all_named};
 use crate::ordering::{listed_methods, order_methods, quiet_methods};
 use crate::refusal::Refusal;
-use crate::scoping::are_named;
 use crate::writing::{Budgets, Parts, Written, write_program};
 use aom_asm::assemble;
 use aom_budget::Figures;
@@ -25,9 +26,6 @@ use aom_source_tokens::Tokens;
 use aom_text::{AsmFault, AsmFaultKind};
 use aom_verify::{Checked, check};
 use std::alloc::{AllocError, Global};
-
-/// The most bytes of an image's text.
-const MOST_BYTES: usize = 1 << 20;
 
 /// What a source is translated to: a text with its origins, and the image that it denotes.
 #[derive(Drop)]
@@ -55,6 +53,9 @@ pub fn translate<'a>(
     ensures image { IfOk result (λ t. denoted t.written.text.items ≡ Ok t.image) }
     ensures lines { IfOk result (λ t. line_count t.written.text.items ≡ length t.written.origins.items) }
     ensures names { IfOk result (λ t. All (IsNamed tokens.now t.written.origins.items) t.written.names.items) }
+    ensures classes { IfOk result (λ t. HasClassNames tokens.now t.written) }
+    ensures methods { IfOk result (λ t. HasMethodNames tokens.now t.written) }
+    ensures members { IfOk result (λ t. HasMemberNames tokens.now t.written) }
     ensures places { IfErr result (λ refusals. All (IsToldIn tokens.now.bytes) refusals.items) }
 {
     let written = match written_of(alloc, tokens) {
@@ -89,6 +90,9 @@ fn alone<'a>(alloc: Global, refusal: Refusal<'a>) -> Vec<Refusal<'a>>
 fn written_of<'a>(alloc: Global, tokens: &Tokens<'a>) -> Result<Written<'a>, Vec<Refusal<'a>>>
     ensures lines { IfOk result (λ w. line_count w.text.items ≡ length w.origins.items) }
     ensures names { IfOk result (λ w. All (IsNamed tokens.now w.origins.items) w.names.items) }
+    ensures classes { IfOk result (HasClassNames tokens.now) }
+    ensures methods { IfOk result (HasMethodNames tokens.now) }
+    ensures members { IfOk result (HasMemberNames tokens.now) }
     ensures places { IfErr result (λ refusals. All (IsToldIn tokens.now.bytes) refusals.items) }
 {
     let items = match read_program(alloc, tokens) {
@@ -105,7 +109,7 @@ fn written_of<'a>(alloc: Global, tokens: &Tokens<'a>) -> Result<Written<'a>, Vec
     }
 }
 
-/// What was written, if its names of registers are those of the source: else the fault is the translator's own.
+/// What was written, if its names are those of the source: else the fault is the translator's own.
 fn named<'a>(
     alloc: Global,
     tokens: &Tokens<'a>,
@@ -113,9 +117,12 @@ fn named<'a>(
 ) -> Result<Written<'a>, Vec<Refusal<'a>>>
     ensures same { IfOk result (λ w. w ≡ written.entry) }
     ensures names { IfOk result (λ w. All (IsNamed tokens.now w.origins.items) w.names.items) }
+    ensures classes { IfOk result (HasClassNames tokens.now) }
+    ensures methods { IfOk result (HasMethodNames tokens.now) }
+    ensures members { IfOk result (HasMemberNames tokens.now) }
     ensures places { IfErr result (λ refusals. All (IsToldIn tokens.now.bytes) refusals.items) }
 {
-    match are_named(alloc, tokens, &written) {
+    match are_all_named(alloc, tokens, &written) {
         Ok(true) => Ok(written),
         Ok(false) => Err(alone(alloc, Refusal::of_fault(tokens, Fault::internal()))),
         Err(_) => Err(alone(alloc, Refusal::OutOfMemory)),

@@ -1,3 +1,4 @@
 mod Begins
 mod Numbers
+mod Placed
 mod Shown

@@ -2,6 +2,7 @@
 use Rattle.std.specs.Prelude.{All, List, ℕ, ◌≡◌, length, Ok}
 use Rattle.aom_image.specs.Image.{Image}
 use Rattle.aom_asm.specs.Denoted.{denoted}
+use Rattle.aom_source.specs.Listing.{HasClassNames, HasMemberNames, HasMethodNames}
 use Rattle.aom_source.specs.Map.{IsNamed, line_count}
 use Rattle.aom_source.specs.declared.writing.Written.{Written}
 use Rattle.aom_source_tokens.specs.Tokens.{tokens_of}
@@ -18,7 +19,8 @@ abbrev pub IsOutputOf : Emit → Tokens → Written → List ℕ → Type 0
 IsOutputOf emits.Text tokens written text = text ≡ written.text.items
 IsOutputOf emits.Map tokens written text = text ≡ map_text tokens written.origins.items written.names.items
 
--- it is that of a text that denotes an image, each of whose lines has a token of the source; the names are those that the source declares, where they hold
+-- it is that of a text that denotes an image, each of whose lines has a token of the source; its names are those that the source declares: of registers where
+-- they hold, of classes and methods in the lines that come of their declarations, of words and fields in the comments of classes
 pub record IsOutput (emit : Emit) (source text : List ℕ) : Type 0 where
   pub tokens : Tokens
   pub of_source : tokens.bytes ≡ source
@@ -28,6 +30,9 @@ pub record IsOutput (emit : Emit) (source text : List ℕ) : Type 0 where
   pub denotes : denoted written.text.items ≡ Ok image
   pub lines : line_count written.text.items ≡ length written.origins.items
   pub names : All (IsNamed tokens written.origins.items) written.names.items
+  pub classes : HasClassNames tokens written
+  pub methods : HasMethodNames tokens written
+  pub members : HasMemberNames tokens written
   pub is : IsOutputOf emit tokens written text
 
 -- what was asked for; what is told of the source begins with a place of it

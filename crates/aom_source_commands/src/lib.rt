@@ -4,6 +4,7 @@
 #![tactic(auto)]
 
 mod compiling;
+mod diagnosing;
 mod judging;
 mod mapping;
 mod notes;
@@ -16,7 +17,9 @@ mod told;
 mod words;
 
 pub use compiling::{Compiled, Emit, compile};
+pub use diagnosing::{Diagnosis, diagnose, notes_of_source};
 pub use judging::accept_source;
+pub use notes::LineNotes;
 pub use scripts::script_of_source;
 pub use sending::compile_source;
 pub use showing::show_source;

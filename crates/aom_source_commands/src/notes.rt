@@ -1,5 +1,5 @@
 //! What stands behind the lines of a source that is shown: at most one comment a line, of what was added there and what a method costs.
-ghost use Rattle.std.specs.Prelude.{◌≡◌, [], ◌++◌, All, IfOk, OnOk, IsOk, codes, get_or};
+ghost use Rattle.std.specs.Prelude.{◌≡◌, [], ◌++◌, All, IfOk, OnOk, IsOk, codes, get_or, map};
 ghost use Rattle.aom_source_commands.specs.Showing.{IsNote};
 
 use crate::told::{Told, told_of};
@@ -51,6 +51,13 @@ impl LineNotes {
         ensures { All IsNote self.now }
     {
         let _ = &self.notes;
+    }
+
+    /// All of them, from the first line on.
+    pub fn as_slice(&self) -> &[Vec<u8>]
+        ensures { map (λ note. note.items) result.now ≡ self.now }
+    {
+        &self.notes
     }
 
     /// What stands behind a line, whose number counts from 0.

@@ -65,7 +65,7 @@ pub fn said_of(kind: FaultKind) -> Saying {
         ),
         FaultKind::OutOfMemory => say("there is no memory", ""),
         FaultKind::ClassCycle => say(
-            "`$` would come before itself: it owns its like, or descends from itself",
+            "`$` would come before itself: it owns its like, perhaps through others, or descends from itself",
             "make a chain of several classes",
         ),
         FaultKind::WrongParent => say(

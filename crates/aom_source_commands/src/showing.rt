@@ -82,7 +82,7 @@ fn show_translation(
 }
 
 /// What each method of an image costs, by its number.
-fn prices_of(alloc: Global, image: Image) -> Result<Vec<u64>, Fault> {
+pub fn prices_of(alloc: Global, image: Image) -> Result<Vec<u64>, Fault> {
     let checked = check(alloc, link(alloc, image)?)?;
     let figures = Figures::of_image(alloc, &checked)?;
     let mut prices: Vec<u64> = Vec::new(alloc);

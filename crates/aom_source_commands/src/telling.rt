@@ -56,6 +56,14 @@ fn refusal_text(
     text_at(alloc, name, place, telling)
 }
 
+/// What is said of a refusal without its place: a sentence, and behind a line feed what mends it.
+pub fn message_of(alloc: Global, refusal: Refusal<'_>) -> Result<Vec<u8>, AllocError> {
+    let mut telling = Telling::new(alloc);
+    telling.sentence(refusal);
+    telling.mend_behind(b"\n", refusal);
+    telling.into_text()
+}
+
 /// The text of a budget that a source declares and that is exceeded, with its place.
 pub fn tell_over_budget(
     alloc: Global,
@@ -220,17 +228,26 @@ impl Telling {
         }
     }
 
-    fn mend(&mut self, refusal: Refusal<'_>) {
+    /// What mends a fault, behind some words. Of some nothing is known that does.
+    fn mend_behind(&mut self, words: &[u8], refusal: Refusal<'_>) -> bool {
         let Refusal::Fault(fault, _) = refusal else {
-            return;
+            return false;
         };
         let mend = said_of(fault.kind).mend;
         if mend.is_empty() {
-            return;
+            return false;
         }
-        self.words(b"    To mend it: ");
+        self.words(words);
+        self.words(b"To mend it: ");
         self.fill(mend, fault);
-        self.words(b"\n");
+        true
+    }
+
+    /// What mends a fault, in a line of its own.
+    fn mend(&mut self, refusal: Refusal<'_>) {
+        if self.mend_behind(b"    ", refusal) {
+            self.words(b"\n");
+        }
     }
 
     /// The line of a place, and a mark under its column.

@@ -391,7 +391,9 @@ impl<'s, 't, 'a> Generator<'s, 't, 'a> {
             return Err(self.fault(self.no_owner_fault(name), at).about(name));
         };
         self.is_there(local, token)?;
-        self.delete(local, token, Note::written())
+        self.delete(local, token, Note::written())?;
+        self.set_gone(local);
+        Ok(())
     }
 
     /// What is run at the block's end, and at a leave.

@@ -34,7 +34,7 @@ complete -c aom -n '__fish_seen_subcommand_from check' -l prices -d 'Also tells 
 complete -c aom -n '__fish_seen_subcommand_from check' -l explain -d 'Explains a fault: what it means, where it is, and what usually mends it'
 complete -c aom -n '__fish_seen_subcommand_from check' -l lines -d 'Tells a fault in one line with its file and line, as compilers do; needs --asm or --text'
 complete -c aom -n '__fish_seen_subcommand_from check' -l all -d 'Tells the first fault of each method that is refused, and not of the first alone'
-complete -c aom -n '__fish_seen_subcommand_from check' -l warn -d 'Also tells what nobody may have wanted of an image that is accepted'
+complete -c aom -n '__fish_seen_subcommand_from check' -l warn -d 'Also tells what nobody may have wanted'
 complete -c aom -n '__fish_seen_subcommand_from check' -l text -d 'The text that the image was made of, to tell things by its names and lines' -r -k -a '(__fish_complete_suffix .aom)'
 complete -c aom -n '__fish_seen_subcommand_from check' -l asm -d 'Takes an assembly text in place of the image, and assembles it first'
 complete -c aom -n '__fish_seen_subcommand_from check' -l source -d 'Takes a source in place of the image, and compiles it first'
@@ -45,6 +45,7 @@ complete -c aom -n __fish_use_subcommand -a run -d 'Checks an image, runs it und
 complete -c aom -n '__fish_seen_subcommand_from run' -l limit -d 'Ends a run after N dispatches, main'\''s not counted' -x
 complete -c aom -n '__fish_seen_subcommand_from run' -l explain -d 'Explains a fault: what it means, where it is, and what usually mends it'
 complete -c aom -n '__fish_seen_subcommand_from run' -l names -d 'Writes the names of classes in place of their numbers; needs --asm, --source or --text'
+complete -c aom -n '__fish_seen_subcommand_from run' -l warn -d 'Also tells what nobody may have wanted'
 complete -c aom -n '__fish_seen_subcommand_from run' -l text -d 'The text that the image was made of, to tell things by its names and lines' -r -k -a '(__fish_complete_suffix .aom)'
 complete -c aom -n '__fish_seen_subcommand_from run' -l asm -d 'Takes an assembly text in place of the image, and assembles it first'
 complete -c aom -n '__fish_seen_subcommand_from run' -l source -d 'Takes a source in place of the image, and compiles it first'
@@ -99,4 +100,5 @@ complete -c aom -n '__fish_seen_subcommand_from compile' -l map -d 'Writes where
 complete -c aom -n '__aom_at compile 0' -k -a '(__fish_complete_suffix .ao)' -d 'The file of a source'
 complete -c aom -n __fish_use_subcommand -a show -d 'Shows a source with what the compiler has added to each line'
 complete -c aom -n '__aom_at show 0' -k -a '(__fish_complete_suffix .ao)' -d 'The file of a source'
-complete -c aom -n '__aom_at help 0' -a 'check run explore debug asm dis dot compile show'
+complete -c aom -n __fish_use_subcommand -a lsp -d 'Answers editors what they ask of sources, over standard input and output'
+complete -c aom -n '__aom_at help 0' -a 'check run explore debug asm dis dot compile show lsp'

@@ -98,12 +98,13 @@ fn each_other_fault_writes_its_word(rt: HostRuntime) -> Result<(), Fail> {
 }
 
 /// Those of a debugger's commands.
-const OF_COMMANDS: [(DebugFault, &str); 5] = [
+const OF_COMMANDS: [(DebugFault, &str); 6] = [
     (DebugFault::BadCommand, "fault 1"),
     (DebugFault::NoSuch, "fault 2"),
     (DebugFault::Ended, "fault 3"),
     (DebugFault::OutOfMemory, "fault 4"),
     (DebugFault::WriteFault, "fault 5"),
+    (DebugFault::NotThere, "fault 6"),
 ];
 
 #[test]

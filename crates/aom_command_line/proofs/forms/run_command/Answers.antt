@@ -13,6 +13,8 @@ returns c =
     c.explain_arg.ensures.own in
     let names = next c.names_arg.result _ _ c.with_arg-command.result c.with_arg-command-2.result c.with_arg-command-2.ensures explain c.names_arg.ensures.rule
     c.names_arg.ensures.own in
-    let text = next c.text_arg.result _ _ c.with_arg-command-2.result c.with_arg-command-3.result c.with_arg-command-3.ensures names c.text_arg.ensures.rule
+    let warn = next c.warn_arg.result _ _ c.with_arg-command-2.result c.with_arg-command-3.result c.with_arg-command-3.ensures names c.warn_arg.ensures.rule
+    c.warn_arg.ensures.own in
+    let text = next c.text_arg.result _ _ c.with_arg-command-3.result c.with_arg-command-4.result c.with_arg-command-4.ensures warn c.text_arg.ensures.rule
     c.text_arg.ensures.own in
     c.with_files.ensures _ text

@@ -1,8 +1,9 @@
 -- One place after another from the bottom, until the one over so many others.
 use Rattle.std.proofs.Common.{◌∙◌, ◌≡◌, add-one, ap, arith, false, suc, sym, true}
-use Rattle.aom_debug_paths.proofs.DebugViewsLemmas.{counted_next}
-use Rattle.aom_debug_paths.specs.Paths.{is_such, length_of, numbered}
-use Rattle.aom_debug_paths.proofs.Numbering.{as_many, numbered_more, numbered_reported}
+use Rattle.aom_debug_paths.proofs.DebugViewsLemmas.{as_many, counted_next}
+use Rattle.aom_debug_paths.specs.Paths.{numbered}
+use Rattle.aom_debug_views.specs.SeriesMaps.{is_such, length_of}
+use Rattle.aom_debug_paths.proofs.Numbering.{numbered_more, numbered_reported}
 use Rattle.aom_debug_paths.proofs.finding.numbered_place.Goals as goal
 
 pub returns-then-is_meant : goal.returns-then-is_meant

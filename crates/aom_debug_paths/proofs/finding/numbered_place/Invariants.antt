@@ -4,7 +4,8 @@ use Rattle.aom_image.specs.Image.{Image}
 use Rattle.aom_machine_state.specs.Stands.{Refines}
 use Rattle.aom_semantics.specs.State.{State}
 use Rattle.aom_debug_views.specs.CellViews.{counted}
-use Rattle.aom_debug_paths.specs.Paths.{is_such, numbered}
+use Rattle.aom_debug_paths.specs.Paths.{numbered}
+use Rattle.aom_debug_views.specs.SeriesMaps.{is_such}
 use Rattle.aom_debug_paths.proofs.finding.numbered_place.Given as goal
 
 abbrev pub invariant-loop-place : goal.invariant-loop-place

@@ -13,8 +13,11 @@ pub returns-in-Over-clause-went : goal.returns-in-Over-clause-went
 returns-in-Over-clause-went g c =
     let a = c.args.runner.now in
     let n = c.walk-in-Over.new.runner in
-    rw c.in-Over.is (went_as a a n _ _ _ _ c.walk-in-Over.result (walks_over a.machine.core.image a.lines.refused c.in-Over.scope c.args.breakpoints.now
-    a.recent n.recent c.depth_of-depth.result a.machine n.machine _ _ c.depth_of-depth.ensures) (λ x. x) c.walk-in-Over.ensures.went)
+    rw c.in-Over.is (λ t strongest. went_as a a n _ _ _ _ c.walk-in-Over.result (walks_over t a.machine.core.image a.lines.refused c.in-Over.scope c.args.breakpoints.now
+    a.recent n.recent c.depth_of-depth.result a.machine n.machine _ _ c.depth_of-depth.ensures) (λ x. x) (c.walk-in-Over.ensures.went t strongest))
+
+pub returns-in-To-clause-went : goal.returns-in-To-clause-went
+returns-in-To-clause-went g c = rw c.in-To.is c.walk-in-To.ensures.went
 
 pub returns-in-OnTo-clause-went : goal.returns-in-OnTo-clause-went
 returns-in-OnTo-clause-went g c =
@@ -22,9 +25,9 @@ returns-in-OnTo-clause-went g c =
     let p = a.machine.core.image in
     let n = c.walk_unless.new.runner in
     let rests = c.is_there-rests in
-    rw c.in-OnTo.is (went_as a a n _ _ _ _ c.walk_unless.result
-    (walked_on p a.lines.refused (λ (s : State). stays_at p c.in-OnTo.until c.args.breakpoints.now s)
-    a.recent n.recent a.machine n.machine _ _ rests.result rests.ensures) (λ x. x) c.walk_unless.ensures.went)
+    rw c.in-OnTo.is (λ t strongest. went_as a a n _ _ _ _ c.walk_unless.result
+    (walked_on p a.lines.refused (λ (s : State). stays_at t p c.in-OnTo.until c.args.breakpoints.now s)
+    a.recent n.recent a.machine n.machine _ _ rests.result (rests.ensures t strongest)) (λ x. x) (c.walk_unless.ensures.went t strongest))
 
 pub is_there-rests-requires : goal.is_there-rests-requires
 is_there-rests-requires g c = c.requires.ready.stands
@@ -73,3 +76,18 @@ returns-in-OnTo-clause-agree g c = c.walk_unless.ensures.agree
 
 pub returns-in-OnTo-clause-keeps : goal.returns-in-OnTo-clause-keeps
 returns-in-OnTo-clause-keeps g c = c.walk_unless.ensures.keeps
+
+pub walk-requires-in-To-clause-agree : goal.walk-requires-in-To-clause-agree
+walk-requires-in-To-clause-agree g c = c.requires.agree
+
+pub walk-requires-in-To-clause-ready : goal.walk-requires-in-To-clause-ready
+walk-requires-in-To-clause-ready g c = c.requires.ready
+
+pub walk-requires-in-To-clause-running : goal.walk-requires-in-To-clause-running
+walk-requires-in-To-clause-running g c = c.requires.running
+
+pub returns-in-To-clause-agree : goal.returns-in-To-clause-agree
+returns-in-To-clause-agree g c = c.walk-in-To.ensures.agree
+
+pub returns-in-To-clause-keeps : goal.returns-in-To-clause-keeps
+returns-in-To-clause-keeps g c = c.walk-in-To.ensures.keeps

@@ -11,6 +11,7 @@ use Rattle.aom_debug_stepping.proofs.Going.{cut_run}
 use Rattle.aom_debug_stepping.proofs.Leaving.{left_falls, left_in}
 use Rattle.aom_debug_stepping.proofs.Passing.{begins_far, far_cut, goes_far, passed, went_on}
 use Rattle.aom_debug_stepping.proofs.DebugSteps.{walked_if_any}
+use Rattle.aom_debug_stepping.proofs.Typed.{strongest_as}
 use Rattle.aom_debug_stepping.proofs.run_goals.resume_run.Goals as goal
 
 pub loop-progress-init : goal.loop-progress-init
@@ -18,45 +19,48 @@ loop-progress-init g c =
     let a = c.args.runner.now in
     let p = a.machine.core.image in
     let m = c.walk_unless.new.runner in
-    let stays = λ (s : State). stays_at p c.args.until c.args.breakpoints.now s in
     let before = g.W.Sink.out c.args.out.now in
     let out = g.W.Sink.out c.walk_unless.new.out in
-    let walks = walked_if_any p _ stays a.recent m.recent a.machine m.machine before out _ c.is_idle-rests.ensures.rests c.in_ok-progress.ensures.went.0 in
+    let t0 = c.requires.ready.stands.1.stands.typing in
+    let strongest0 = c.requires.ready.stands.1.stands.sound.strongest in
     record {
-      so_far = begins_far p (outside_of a) stays a.recent m.recent a.machine m.machine before out walks;
-      far = c.in_ok-progress.ensures.went.1;
+      so_far = λ t strongest.
+          let stays = λ (s : State). stays_at t p c.args.until c.args.breakpoints.now s in
+          let walks = walked_if_any p _ stays a.recent m.recent a.machine m.machine before out _ c.is_idle-rests.ensures.rests (c.in_ok-progress.ensures.went t strongest).0 in
+          begins_far p (outside_of a) stays a.recent m.recent a.machine m.machine before out walks;
+      far = (c.in_ok-progress.ensures.went t0 strongest0).1;
       keeps = c.walk_unless.ensures.keeps;
       agree = c.walk_unless.ensures.agree;
     }
 
 pub returns-in_default-clause-went : goal.returns-in_default-clause-went
-returns-in_default-clause-went g c =
+returns-in_default-clause-went g c = λ t strongest.
     let a = c.args.runner.now in
     let p = a.machine.core.image in
     let m = c.loop-progress.runner in
-    let stays = λ (s : State). stays_at p c.args.until c.args.breakpoints.now s in
+    let stays = λ (s : State). stays_at t p c.args.until c.args.breakpoints.now s in
     let i = c.loop-progress.invariant in
-    (went_on p (outside_of a) stays a.recent m.recent a.machine m.machine (g.W.Sink.out c.args.out.now) (g.W.Sink.out c.loop-progress.out) (λ is. c.in_default.not-Turned (i.far ∙ is)) i.so_far, i.far)
+    (went_on p (outside_of a) stays a.recent m.recent a.machine m.machine (g.W.Sink.out c.args.out.now) (g.W.Sink.out c.loop-progress.out) (λ is. c.in_default.not-Turned (i.far ∙ is)) (i.so_far t strongest), i.far)
 
 pub returns-in_err-progress-clause-went : goal.returns-in_err-progress-clause-went
-returns-in_err-progress-clause-went g c =
+returns-in_err-progress-clause-went g c = λ t strongest.
     let a = c.args.runner.now in
-    let off = c.in_err-progress.ensures.went in
+    let off = c.in_err-progress.ensures.went t strongest in
     rw c.from_residual.ensures (off.0, cut_run a.machine.core.image (outside_of a) a.machine c.walk_unless.new.runner.machine (g.W.Sink.out c.args.out.now) (g.W.Sink.out c.walk_unless.new.out) off.1)
 
 pub returns-in_err-progress-2-clause-went : goal.returns-in_err-progress-2-clause-went
-returns-in_err-progress-2-clause-went g c =
+returns-in_err-progress-2-clause-went g c = λ t strongest.
     let a = c.args.runner.now in
     let p = a.machine.core.image in
-    let stays = λ (s : State). stays_at p c.args.until c.args.breakpoints.now s in
+    let stays = λ (s : State). stays_at t p c.args.until c.args.breakpoints.now s in
     let i = c.loop-progress.invariant in
     let m = c.loop-progress.runner in
     let n = c.run_in_dispatch.new.runner in
     let here = g.W.Sink.out c.loop-progress.out in
     let out = g.W.Sink.out c.run_in_dispatch.new.out in
-    let off = c.in_err-progress-2.ensures.went in
+    let off = c.in_err-progress-2.ensures.went t (strongest_as i.keeps t strongest) in
     let cut = observed_as i.keeps (λ q o. Breaks (Reaches q o) m.machine here out n.machine) off.1 in
-    rw c.from_residual-in_err-progress-2.ensures (off.0, far_cut p _ stays a.recent m.recent a.machine m.machine n.machine _ here out i.so_far cut)
+    rw c.from_residual-in_err-progress-2.ensures (off.0, far_cut p _ stays a.recent m.recent a.machine m.machine n.machine _ here out (i.so_far t strongest) cut)
 
 pub loop-progress-smaller : goal.loop-progress-smaller
 loop-progress-smaller g c =
@@ -64,8 +68,11 @@ loop-progress-smaller g c =
     let keeps = c.loop-progress.invariant.keeps in
     let m = c.loop-progress.runner in
     let n = c.run_in_dispatch.new.runner in
-    let some = c.in_ok-progress-2.ensures.went in
-    let on = passed a m n keeps c.args.until c.args.breakpoints.now _ _ some.0 in
+    let t = c.requires.ready.stands.1.stands.typing in
+    let strongest = c.requires.ready.stands.1.stands.sound.strongest in
+    let went = c.in_ok-progress-2.ensures.went in
+    let some = went t (strongest_as keeps t strongest) in
+    let on = passed a m n keeps t c.args.until c.args.breakpoints.now _ _ some.0 in
     let resting = sym c.loop-progress.invariant.far ∙ c.in-Turned.is in
     let later = left_in a.script.timed a.limit n.machine.core.parts.rest in
     let before = left_in a.script.timed a.limit m.machine.core.parts.rest in
@@ -81,12 +88,16 @@ loop-progress-preserved g c =
     let i = c.loop-progress.invariant in
     let m = c.loop-progress.runner in
     let n = c.run_in_dispatch.new.runner in
-    let stays = λ (s : State). stays_at p c.args.until c.args.breakpoints.now s in
-    let some = c.in_ok-progress-2.ensures.went in
-    let on = passed a m n i.keeps c.args.until c.args.breakpoints.now _ _ some.0 in
+    let went = c.in_ok-progress-2.ensures.went in
+    let t0 = c.requires.ready.stands.1.stands.typing in
+    let strongest0 = c.requires.ready.stands.1.stands.sound.strongest in
     record {
-      so_far = goes_far p (outside_of a) stays a.recent m.recent a.machine m.machine n.machine _ _ _ i.so_far n.recent on;
-      far = some.1;
+      so_far = λ t strongest.
+          let stays = λ (s : State). stays_at t p c.args.until c.args.breakpoints.now s in
+          let some = went t (strongest_as i.keeps t strongest) in
+          let on = passed a m n i.keeps t c.args.until c.args.breakpoints.now _ _ some.0 in
+          goes_far p (outside_of a) stays a.recent m.recent a.machine m.machine n.machine _ _ _ (i.so_far t strongest) n.recent on;
+      far = (went t0 (strongest_as i.keeps t0 strongest0)).1;
       keeps = keeps_on i.keeps c.run_in_dispatch.ensures.keeps;
       agree = c.run_in_dispatch.ensures.agree;
     }

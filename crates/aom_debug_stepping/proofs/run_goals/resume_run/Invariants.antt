@@ -1,6 +1,8 @@
 use Rattle.std.proofs.Common.{◌≡◌}
 use Rattle.aom_machine.specs.Steps.{progress}
 use Rattle.aom_natives.specs.Slots.{AllAgree}
+use Rattle.aom_static_bounds.specs.Strongest.{IsStrongest}
+use Rattle.aom_typing_rules.specs.Typing.{Typing}
 use Rattle.aom_debug_stepping.specs.Runners.{KeepsRunner, outside_of}
 use Rattle.aom_debug_stepping.specs.Sends.{Sends}
 use Rattle.aom_debug_stepping.proofs.Sending.{to_go}
@@ -11,8 +13,8 @@ use Rattle.aom_debug_stepping.proofs.run_goals.resume_run.Given as goal
 
 abbrev pub invariant-loop-progress : goal.invariant-loop-progress
 invariant-loop-progress g l = record {
-  so_far : Sends (GoesFar l.fn.runner.machine.core.image
-      (outside_of l.fn.runner) (λ s. stays_at l.fn.runner.machine.core.image l.fn.until l.fn.breakpoints s) l.fn.runner.recent l.runner.recent) l.fn.runner.machine
+  so_far : (t : Typing) → IsStrongest l.fn.runner.machine.core.image t → Sends (GoesFar l.fn.runner.machine.core.image
+      (outside_of l.fn.runner) (λ s. stays_at t l.fn.runner.machine.core.image l.fn.until l.fn.breakpoints s) l.fn.runner.recent l.runner.recent) l.fn.runner.machine
       (g.W.Sink.out l.fn.out) (g.W.Sink.out l.out) l.runner.machine;
   far : l.progress ≡ progress l.runner.machine.core;
   keeps : KeepsRunner l.fn.runner l.runner;

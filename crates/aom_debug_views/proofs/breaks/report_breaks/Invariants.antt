@@ -8,4 +8,4 @@ use Rattle.aom_debug_views.proofs.breaks.report_breaks.Given as goal
 
 abbrev pub invariant-loop-index : goal.invariant-loop-index
 invariant-loop-index g l = g.W.Sink.out l.out ≡ after (g.W.Sink.out l.initial.out)
-    (answers_by l.names (gathered (λ k. listed (option_map (λ spot. Break spot) (slice_get l.breakpoints k))) l.index))
+    (answers_by l.names (gathered (λ k. listed (option_map (λ b. Break b) (slice_get l.breakpoints k))) l.index))

@@ -6,7 +6,7 @@ use Rattle.aom_semantics.specs.Places.{Entry}
 use Rattle.aom_semantics.specs.State.{State}
 use Rattle.aom_debug_views.specs.Owners.{In_entry, Owned, grown, is_entry, owned_line}
 use Rattle.aom_debug_views.proofs.Counting.{counted_next}
-use Rattle.aom_debug_views.proofs.Series.{hangs, hangs_cut, hangs_more}
+use Rattle.aom_debug_views.proofs.Hanging.{hangs, hangs_cut, hangs_more}
 use Rattle.aom_debug_views.proofs.Showing.{as_many_items}
 use Rattle.aom_debug_views.proofs.Tasks.{entry_shows}
 use Rattle.aom_debug_views.proofs.Reporting.{reports_all}

@@ -6,7 +6,7 @@ use Rattle.aom_semantics.specs.Places.{Going}
 use Rattle.aom_semantics.specs.State.{State}
 use Rattle.aom_debug_views.specs.Owners.{In_going, Owned, grown, is_going, owned_line}
 use Rattle.aom_debug_views.proofs.Counting.{counted_next}
-use Rattle.aom_debug_views.proofs.Series.{hangs, hangs_cut, hangs_more}
+use Rattle.aom_debug_views.proofs.Hanging.{hangs, hangs_cut, hangs_more}
 use Rattle.aom_debug_views.proofs.Tasks.{as_many_tasks, going_shows}
 use Rattle.aom_debug_views.proofs.Reporting.{reports_all}
 use Rattle.aom_debug_views.proofs.owners.report_goings.Goals as goal

@@ -6,7 +6,7 @@ use Rattle.aom_semantics.specs.State.{State}
 use Rattle.aom_machine_state.specs.Stands.{MachineModel}
 use Rattle.aom_debug_views.specs.Owners.{Owned, frame_registers, is_frame, owned_line}
 use Rattle.aom_debug_views.proofs.Counting.{counted_next}
-use Rattle.aom_debug_views.proofs.Series.{hangs, hangs_cut, hangs_more}
+use Rattle.aom_debug_views.proofs.Hanging.{hangs, hangs_cut, hangs_more}
 use Rattle.aom_debug_views.proofs.Tasks.{as_many_tasks}
 use Rattle.aom_debug_views.proofs.Reporting.{reports_all}
 use Rattle.aom_debug_views.proofs.owners.report_registers.Goals as goal

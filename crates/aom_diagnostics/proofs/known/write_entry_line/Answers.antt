@@ -8,7 +8,7 @@ use Rattle.aom_diagnostics.proofs.known.write_entry_line.Goals as goal
 pub returns : goal.returns
 unfolding entry_line
 returns c =
-    let parts = entry_parts c.args.shape.now in
+    let parts = entry_parts c.args.names.now c.args.shape.now in
     let more = more_words (length c.args.shape.now.entries) in
     IfOk-weaker c.words-2.result _ _
     (λ done put.

@@ -8,7 +8,7 @@ use Rattle.aom_diagnostics.proofs.known.write_field_line.Goals as goal
 pub returns : goal.returns
 unfolding field_line
 returns c =
-    let parts = field_parts c.args.at.now.linked.now c.args.at.now.method c.args.at.now.shape.now in
+    let parts = field_parts c.args.names.now c.args.at.now.linked.now c.args.at.now.method c.args.at.now.shape.now in
     IfOk-weaker c.words-2.result _ _
     (λ done put.
     both_out c.args.out.now (codes "Known of fields:") (parts ++ 10 ∷ []) c.words.new.self c.words-2.new.self c.in_ok-words.ensures

@@ -8,4 +8,4 @@ use Rattle.aom_diagnostics.proofs.known.write_field_parts.Given as goal
 
 abbrev pub invariant-loop-number : goal.invariant-loop-number
 invariant-loop-number l =
-    l.out ≡ l.fn.out ++ by_number (λ f. field_part f (field_thing l.at.linked.now (holder_of l.at.linked.now l.at.method) f) (field l.at.shape.now f)) l.number
+    l.out ≡ l.fn.out ++ by_number (λ f. field_part l.names f (field_thing l.at.linked.now (holder_of l.at.linked.now l.at.method) f) (field l.at.shape.now f)) l.number

@@ -15,6 +15,9 @@ returns-in-Ok-translate c =
         denotes = made.image;
         lines = made.lines;
         names = made.names;
+        classes = made.classes;
+        methods = made.methods;
+        members = made.members;
         is = c.in_ok-output_of-in-Ok-translate.ensures;
       };
     }

@@ -300,3 +300,33 @@ returns-in-Queue-clause-keeps g c = c.queue_at.ensures.keeps
 
 pub returns-in-Queue-clause-answer : goal.returns-in-Queue-clause-answer
 returns-in-Queue-clause-answer g c = rw c.in-Queue.is c.queue_at.ensures.answer
+
+pub print-requires-clause-agree : goal.print-requires-clause-agree
+print-requires-clause-agree g c = c.requires.agree
+
+pub print-requires-clause-ready : goal.print-requires-clause-ready
+print-requires-clause-ready g c = c.requires.ready
+
+pub returns-in-Print-clause-agree : goal.returns-in-Print-clause-agree
+returns-in-Print-clause-agree g c = c.print.ensures.agree
+
+pub returns-in-Print-clause-keeps : goal.returns-in-Print-clause-keeps
+returns-in-Print-clause-keeps g c = c.print.ensures.keeps
+
+pub returns-in-Print-clause-answer : goal.returns-in-Print-clause-answer
+returns-in-Print-clause-answer g c = rw c.in-Print.is c.print.ensures.answer
+
+pub watch-requires-clause-agree : goal.watch-requires-clause-agree
+watch-requires-clause-agree g c = c.requires.agree
+
+pub watch-requires-clause-ready : goal.watch-requires-clause-ready
+watch-requires-clause-ready g c = c.requires.ready
+
+pub returns-in-Watch-clause-agree : goal.returns-in-Watch-clause-agree
+returns-in-Watch-clause-agree g c = c.watch.ensures.agree
+
+pub returns-in-Watch-clause-keeps : goal.returns-in-Watch-clause-keeps
+returns-in-Watch-clause-keeps g c = c.watch.ensures.keeps
+
+pub returns-in-Watch-clause-answer : goal.returns-in-Watch-clause-answer
+returns-in-Watch-clause-answer g c = rw c.in-Watch.is c.watch.ensures.answer

@@ -31,17 +31,12 @@ returns-in-Cleanup-clause-err g c =
     (λ fault part. ((part p).reported, (part p).fails, (λ s st. (_, refl, (part p).out s st.stands)))) (rw c.parts.ensures.parts at c.report_cleanup.ensures.err))
 
 pub returns-in-Actives-clause-ok : goal.returns-in-Actives-clause-ok
-returns-in-Actives-clause-ok g c =
-    let p = c.args.self.now.runner.machine.core.image in
-    rw c.in-Actives.is (IfOk-weaker c.report_actives.result _ _ (λ done reports s st. (_, (_, (reports p).order s st.stands, refl), (reports p).out s st.stands))
-    (rw c.parts-in-Actives.ensures.parts at c.report_actives.ensures.ok))
+returns-in-Actives-clause-ok g c = rw c.in-Actives.is
+    (IfOk-weaker c.show_actives.result _ _ (λ done reports s st. (_, (_, reports.order s st.stands, refl), reports.out s st.stands)) c.show_actives.ensures.ok)
 
 pub returns-in-Actives-clause-err : goal.returns-in-Actives-clause-err
-returns-in-Actives-clause-err g c =
-    let p = c.args.self.now.runner.machine.core.image in
-    rw c.in-Actives.is (IfErr-weaker c.report_actives.result _ _
-    (λ fault part. ((part p).reported, (part p).fails, (λ s st. (_, (_, (part p).order s st.stands, refl), (part p).out s st.stands))))
-    (rw c.parts-in-Actives.ensures.parts at c.report_actives.ensures.err))
+returns-in-Actives-clause-err g c = rw c.in-Actives.is (IfErr-weaker c.show_actives.result _ _
+    (λ fault part. (part.reported, part.fails, (λ s st. (_, (_, part.order s st.stands, refl), part.out s st.stands)))) c.show_actives.ensures.err)
 
 pub returns-in-History-clause-ok : goal.returns-in-History-clause-ok
 returns-in-History-clause-ok g c = rw c.in-History.is (IfOk-weaker c.report_recent.result _ _ (λ done reports s st. (_, refl, reports)) c.report_recent.ensures.ok)
@@ -90,14 +85,9 @@ returns-in-Frames-clause-err g c =
     )) c.show_frames.ensures.err)
 
 pub returns-in-Timers-clause-ok : goal.returns-in-Timers-clause-ok
-returns-in-Timers-clause-ok g c =
-    let p = c.args.self.now.runner.machine.core.image in
-    rw c.in-Timers.is (IfOk-weaker c.report_timers.result _ _ (λ done reports s st. (_, (_, (reports p).order s st.stands, refl), (reports p).out s st.stands))
-    (rw c.parts-in-Timers.ensures.parts at c.report_timers.ensures.ok))
+returns-in-Timers-clause-ok g c = rw c.in-Timers.is
+    (IfOk-weaker c.show_timers.result _ _ (λ done reports s st. (_, (_, reports.order s st.stands, refl), reports.out s st.stands)) c.show_timers.ensures.ok)
 
 pub returns-in-Timers-clause-err : goal.returns-in-Timers-clause-err
-returns-in-Timers-clause-err g c =
-    let p = c.args.self.now.runner.machine.core.image in
-    rw c.in-Timers.is (IfErr-weaker c.report_timers.result _ _
-    (λ fault part. ((part p).reported, (part p).fails, (λ s st. (_, (_, (part p).order s st.stands, refl), (part p).out s st.stands))))
-    (rw c.parts-in-Timers.ensures.parts at c.report_timers.ensures.err))
+returns-in-Timers-clause-err g c = rw c.in-Timers.is (IfErr-weaker c.show_timers.result _ _
+    (λ fault part. (part.reported, part.fails, (λ s st. (_, (_, part.order s st.stands, refl), part.out s st.stands)))) c.show_timers.ensures.err)

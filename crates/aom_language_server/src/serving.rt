@@ -1,0 +1,106 @@
+//! A session over a reader and a sink.
+ghost use Rattle.std.specs.Prelude.{◌≡◌, ◌++◌, List, OnOk, false, option_map, ℕ};
+ghost use Rattle.aom_message_framing.specs.Frames.{frame_text};
+
+use crate::server::{Answers, Server};
+use aom_message_framing::{Frame, Frames, frame_of};
+use aom_transcript::{Reader, Sink, write_text};
+use serde_json::Value;
+use std::alloc::{AllocError, Global};
+
+/// How a session has ended.
+#[derive(Clone, Copy, PartialEq, Eq, Debug)]
+pub enum Ended {
+    /// Behind `shutdown`.
+    InOrder,
+    /// With no `shutdown` before.
+    Early,
+    /// The input or the output has failed.
+    Failed,
+}
+
+/// The most bytes that are read at once.
+const AT_ONCE: usize = 4096;
+
+/// Answers what a reader gives, to a sink, until `exit` comes or the reader is at its end.
+pub fn serve<R: Reader, W: Sink>(
+    alloc: Global,
+    reader: &mut R,
+    reads: u64,
+    out: &mut W,
+) -> Result<Ended, AllocError> {
+    let mut server = Server::new(alloc);
+    let mut frames = Frames::new(alloc);
+    let mut buffer = [0; AT_ONCE];
+    for _ in 0..reads {
+        let count = match reader.get(&mut buffer) {
+            Some(0) => return Ok(end_of(server.is_ending())),
+            Some(count) => count,
+            None => return Ok(Ended::Failed),
+        };
+        if let Some(ended) = hear(alloc, &mut server, &mut frames, &buffer[..count], out)? {
+            return Ok(ended);
+        }
+    }
+    Ok(end_of(server.is_ending()))
+}
+
+fn end_of(in_order: bool) -> Ended {
+    if in_order {
+        Ended::InOrder
+    } else {
+        Ended::Early
+    }
+}
+
+/// Answers what comes with some bytes. How the session ends, if it does.
+fn hear<W: Sink>(
+    alloc: Global,
+    server: &mut Server,
+    frames: &mut Frames,
+    bytes: &[u8],
+    out: &mut W,
+) -> Result<Option<Ended>, AllocError> {
+    for byte in bytes {
+        let Some(frame) = frames.hear(*byte)? else {
+            continue;
+        };
+        if let Some(ended) = answer(alloc, server, frame, out)? {
+            return Ok(Some(ended));
+        }
+    }
+    Ok(None)
+}
+
+/// Answers a frame.
+fn answer<W: Sink>(
+    alloc: Global,
+    server: &mut Server,
+    frame: Frame,
+    out: &mut W,
+) -> Result<Option<Ended>, AllocError> {
+    let sent = match frame {
+        Frame::Message(message) => match server.answer(&message)? {
+            Answers::Sent(sent) => sent,
+            Answers::Exit { in_order } => return Ok(Some(end_of(in_order))),
+        },
+        Frame::TooLong | Frame::NoLength => Some(server.answer_no_message()?),
+    };
+    if let Some(value) = sent {
+        send(alloc, &value, out)?;
+    }
+    if out.has_failed() {
+        return Ok(Some(Ended::Failed));
+    }
+    Ok(None)
+}
+
+/// Sends a message in its frame.
+fn send<W: Sink>(alloc: Global, value: &Value, out: &mut W) -> Result<(), AllocError>
+    ensures { OnOk result (W.failed out.new ≡ false → (text : List ℕ) × (W.out out.new ≡ option_map (λ t. t ++ frame_text text) (W.out out.old))) }
+{
+    let text = value.to_string(alloc)?;
+    let frame = frame_of(alloc, text.as_bytes())?;
+    write_text(out, &frame);
+    Ok(())
+}

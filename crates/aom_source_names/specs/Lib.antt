@@ -1,0 +1,4 @@
+pub mod Declarations
+pub mod Meanings
+pub mod Spots
+pub mod Words
