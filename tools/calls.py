@@ -52,7 +52,7 @@ os.close(3)
 os.execv(program, ["aom", *sys.argv[1:]])
 """
 # input that has no end is kept up to here
-MOST_INPUT = 1 << 22
+MOST_INPUT = 1 << 23
 # what one call may take: seconds of a processor, seconds on a busy machine, and bytes of memory and of output
 SECONDS, PATIENCE, MEMORY, OUTPUT = 5, 120, 4 << 30, 64 << 20
 
