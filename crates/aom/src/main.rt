@@ -242,7 +242,7 @@ fn execute<'a, W: Sink, E: Sink>(
             if !*source {
                 return Ok(translate_bytes(alloc, Translation::Dis, &bytes, out, errors));
             }
-            match assemble_bytes(alloc, &compiled(rt, image, &bytes)?) {
+            match assemble_bytes(alloc, &compiled(rt, image, &bytes)?.text) {
                 Ok(image) => Ok(translate_bytes(alloc, Translation::Dis, &image, out, errors)),
                 Err(fault) => Ok(telling.report(alloc, &fault, b"", errors)),
             }
@@ -305,11 +305,11 @@ fn script_beside<'a>(
     }
 }
 
-/// The name of the file of a program's text, where there is one that the words name.
+/// The name of the file in which a program's text is told to be, where there is one that the words name.
 fn text_name<'a>(run: &'a RunWords, text: &'a Option<String>) -> &'a [u8] {
     match text {
         Some(name) => name.as_bytes(),
-        None if run.kind == FileKind::Assembly => run.image.as_bytes(),
+        None if run.kind != FileKind::Image => run.image.as_bytes(),
         None => b"",
     }
 }
@@ -323,7 +323,7 @@ enum Purpose<'a> {
         names: bool,
         warn: bool,
     },
-    /// To run as the commands say that come from standard input, each behind a prompt, if one is asked for; the program's text is in that file.
+    /// To run as the commands say that come from standard input, each behind a prompt, if one is asked for; the program's text is told to be in that file.
     Debug {
         file: &'a [u8],
         prompt: bool,
@@ -365,7 +365,7 @@ impl<'a> Purpose<'a> {
                 debug(
                     alloc,
                     program,
-                    file,
+                    files.program.text_file(file),
                     script,
                     limit,
                     boxes,

@@ -1,11 +1,11 @@
 //! The files that a call is about.
-ghost use Rattle.std.specs.Prelude.{option_map};
+ghost use Rattle.std.specs.Prelude.{◌≡◌, [], option_map, unwrap_or};
 ghost use Rattle.aom.specs.Files.{IsProgramOf};
 
 use aom_command_line::FileKind;
-use aom_diagnostic_commands::Program;
+use aom_diagnostic_commands::{Program, TextFile};
 use aom_host::{ReadError, read_file};
-use aom_source_commands::{Compiled, accept_source};
+use aom_source_commands::{Judged, LinedText, accept_source};
 
 /// Why a command has not begun.
 #[derive(Drop)]
@@ -26,12 +26,19 @@ pub fn compiled<'a>(
     rt: &HostRuntime,
     name: &'a String,
     source: &[u8],
-) -> Result<Vec<u8>, Unready<'a>> {
+) -> Result<LinedText, Unready<'a>> {
     match accept_source(rt.alloc(), name.as_bytes(), source) {
-        Ok(Compiled::Text(text)) => Ok(text),
-        Ok(Compiled::Refused(told)) => Err(Unready::Refused(told)),
+        Ok(Judged::Accepted(text)) => Ok(text),
+        Ok(Judged::Refused(told)) => Err(Unready::Refused(told)),
         Err(_) => Err(Unready::Unread(ReadError::Memory)),
     }
+}
+
+/// A source, and the line of it that each line of the text comes of that it is compiled to.
+#[derive(Drop)]
+pub struct SourceFile {
+    pub bytes: Vec<u8>,
+    pub lines: Vec<u32>,
 }
 
 /// The bytes of a program's file, or the text that it is compiled to, and the bytes of the text that is named beside it.
@@ -41,6 +48,8 @@ pub struct ProgramFiles {
     /// Whether these are an assembly text, and not an image.
     pub asm: bool,
     pub text: Option<Vec<u8>>,
+    /// The source, where the text is compiled from one.
+    pub source: Option<SourceFile>,
 }
 
 impl ProgramFiles {
@@ -56,22 +65,44 @@ impl ProgramFiles {
         };
         let bytes = read_file(rt, file)?;
         Ok(match kind {
-            FileKind::Source => ProgramFiles {
-                file: compiled(rt, file, &bytes)?,
-                asm: true,
-                text,
-            },
+            FileKind::Source => {
+                let LinedText { text: file, lines } = compiled(rt, file, &bytes)?;
+                ProgramFiles {
+                    file,
+                    asm: true,
+                    text,
+                    source: Some(SourceFile { bytes, lines }),
+                }
+            }
             FileKind::Assembly => ProgramFiles {
                 file: bytes,
                 asm: true,
                 text,
+                source: None,
             },
             FileKind::Image => ProgramFiles {
                 file: bytes,
                 asm: false,
                 text,
+                source: None,
             },
         })
+    }
+
+    /// The file of that name, in which the program's text is told to be: by the lines of its source, where it has one.
+    pub fn text_file<'a>(&'a self, name: &'a [u8]) -> TextFile<'a>
+        ensures name { result.name.now ≡ name.now }
+        ensures source { result.source.now ≡ unwrap_or (option_map (λ s. s.bytes.items) self.now.source) [] }
+        ensures lines { result.lines.now ≡ unwrap_or (option_map (λ s. s.lines.items) self.now.source) [] }
+    {
+        match &self.source {
+            Some(source) => TextFile {
+                name,
+                source: &source.bytes,
+                lines: &source.lines,
+            },
+            None => TextFile::own(name),
+        }
     }
 
     /// What the call is about.

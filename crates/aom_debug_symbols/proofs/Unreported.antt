@@ -2,7 +2,8 @@
 use Rattle.std.proofs.Common.{◌≡◌, ℕ, suc, Bool, true, false, cond, nat_lt, List, [], ◌++◌, Option}
 use Rattle.std.proofs.Common.{None, Result, Ok, Err, add-one, ap, codes, decimal, length, refl, slice_get}
 use Rattle.aom_syntax.specs.declared.keyword.Keyword.TheVariants as k
-use Rattle.aom_diagnostics.specs.Declarations.{begins, part}
+use Rattle.std.specs.Prelude.{option_map}
+use Rattle.aom_diagnostics.specs.Declarations.{begins, instruction_statement, part}
 use Rattle.aom_debug_protocol.specs.Answers.{answer_text, content_text}
 use Rattle.aom_debug_protocol.specs.Commands.{command_said}
 use Rattle.aom_debug_protocol.specs.declared.command.Command.{Command}
@@ -13,7 +14,7 @@ use Rattle.aom_debug_protocol.specs.declared.answer.Content.TheVariants as conte
 use Rattle.aom_debug_protocol.specs.declared.answer.Source.TheVariants as sources
 use Rattle.aom_debug_protocol.specs.declared.answer.Answer.{Answer}
 use Rattle.aom_debug_protocol.specs.declared.answer.Answer.TheVariants.{At, Frame, Ran, Register}
-use Rattle.aom_debug_symbols.specs.NameLists.{statement_at, unnamed}
+use Rattle.aom_debug_symbols.specs.NameLists.{statement_at, told, unnamed}
 use Rattle.aom_debug_symbols.specs.Answers.{answer_by, behind, content_by, head_by}
 use Rattle.aom_debug_symbols.specs.Commands.{command_by, or_named}
 
@@ -21,8 +22,11 @@ use Rattle.aom_debug_symbols.specs.Commands.{command_by, or_named}
 bare_part : (number : ℕ) → part (begins k.Method) [] (suc number) ≡ []
 bare_part number = refl
 
+none_there : (spot : CodeLocation) → instruction_statement [] spot.method spot.place ≡ None
+none_there spot = rw add-one (ap (λ ss. slice_get ss spot.place) (bare_part spot.method))
+
 nowhere : (spot : CodeLocation) → statement_at unnamed spot ≡ None
-nowhere spot = rw add-one (ap (λ ss. slice_get ss spot.place) (bare_part spot.method))
+nowhere spot = ap (option_map (told unnamed)) (none_there spot)
 
 -- what a register has
 plain_content : (content : Content) → content_by unnamed content ≡ content_text content

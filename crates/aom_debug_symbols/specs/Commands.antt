@@ -43,7 +43,7 @@ mark_there verb condition (Some spot) = marked (mark_at verb (numbered spot.meth
 -- in a line, if that is the number of one
 abbrev pub mark_in : NameLists → Verb → Condition → Option ℕ → Result (Option Command) DebugFault
 mark_in ns verb condition None = Err NoSuch
-mark_in ns verb condition (Some line) = mark_there verb condition (spot_in ns.text line)
+mark_in ns verb condition (Some line) = mark_there verb condition (spot_in ns.text ns.lines line)
 
 -- ---- by two words
 

@@ -5,7 +5,7 @@ use Rattle.aom_debug_protocol.specs.Answers.{answer_text}
 use Rattle.aom_debug_protocol.specs.Commands.{command_said}
 use Rattle.aom_debug_protocol.specs.declared.answer.Answer.{Answer}
 use Rattle.aom_debug_protocol.specs.declared.spot.CodeLocation.{CodeLocation}
-use Rattle.aom_debug_symbols.specs.NameLists.{names_of, statement_at, unnamed}
+use Rattle.aom_debug_symbols.specs.NameLists.{NameLists, statement_at, unnamed}
 use Rattle.aom_debug_symbols.specs.Answers.{answer_by}
 use Rattle.aom_debug_symbols.specs.Commands.{command_by}
 use Rattle.aom_debug_symbols.specs.Lines.{spot_in}
@@ -15,11 +15,12 @@ pub record NoTextIsAsEver : Type 0 where
   pub answers : (answer : Answer) → answer_by unnamed answer ≡ answer_text answer
   pub commands : (line : List ℕ) → command_by unnamed line ≡ command_said line
 
--- the instruction that is found by a line stands in it
+-- the instruction that is found by a line is told to stand in it
 abbrev pub FoundInItsLine : Type 0
-FoundInItsLine = (text : List ℕ) (line : ℕ) (spot : CodeLocation) → spot_in text line ≡ Some spot → option_map (λ s. s.line) (statement_at (names_of text) spot) ≡ Some line
+FoundInItsLine = (ns : NameLists) (line : ℕ) (spot : CodeLocation) → spot_in ns.text ns.lines line ≡ Some spot →
+    option_map (λ s. s.line) (statement_at ns spot) ≡ Some line
 
--- and a line in which an instruction stands is found, in a text of no more statements than the numbers of methods and places reach
+-- and a line in which an instruction is told to stand is found, in a text of no more statements than the numbers of methods and places reach
 abbrev pub FindsEachLine : Type 0
-FindsEachLine = (text : List ℕ) (line : ℕ) (spot : CodeLocation) → length (statements text) ≤ 65536 →
-    option_map (λ s. s.line) (statement_at (names_of text) spot) ≡ Some line → IsSome (spot_in text line)
+FindsEachLine = (ns : NameLists) (line : ℕ) (spot : CodeLocation) → length (statements ns.text) ≤ 65536 →
+    option_map (λ s. s.line) (statement_at ns spot) ≡ Some line → IsSome (spot_in ns.text ns.lines line)

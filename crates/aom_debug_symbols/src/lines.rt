@@ -1,7 +1,8 @@
-//! Which instruction stands in a line of a text.
+//! Which instruction is told to stand in a line.
 ghost use Rattle.std.specs.Prelude.{◌≡◌, ◌≤◌, ◌^◌, length};
 ghost use Rattle.aom_debug_symbols.specs.Lines.{next_of, place_in, spot_in};
 
+use crate::file::line_told;
 use aom_debug_protocol::CodeLocation;
 use aom_diagnostics::begins_with;
 use aom_syntax::Keyword;
@@ -31,10 +32,10 @@ fn place_in(methods: usize, place: usize) -> Option<CodeLocation>
     })
 }
 
-/// The place of the first instruction in a line of a text, if one stands there.
-pub fn spot_in(text: &[u8], line: u32) -> Option<CodeLocation>
+/// The place of the first instruction of a text that is told to stand in a line, if one is.
+pub fn spot_in(text: &[u8], lines: &[u32], line: u32) -> Option<CodeLocation>
     requires { length text.now ≤ 2 ^ 20 }
-    ensures { result ≡ spot_in text.now line }
+    ensures { result ≡ spot_in text.now lines.now line }
 {
     let mut rest = StatementCursor::of(text);
     let mut methods = 0;
@@ -43,7 +44,7 @@ pub fn spot_in(text: &[u8], line: u32) -> Option<CodeLocation>
         if begins_with(Keyword::Method, &statement.words) {
             methods = next(methods)?;
             place = 0;
-        } else if statement.line == line && methods > 0 {
+        } else if line_told(lines, statement.line) == line && methods > 0 {
             return place_in(methods, place);
         } else {
             place = next(place)?;

@@ -6,6 +6,7 @@ ghost use Rattle.aom_transcript.specs.Naming.{class_word, borrowed};
 ghost use Rattle.aom_debug_symbols.specs.NameLists.{class_by, has_text, method_by, method_named, statement_at, unnamed};
 ghost use Rattle.aom_debug_symbols.specs.Lines.{spot_in};
 
+use crate::file::TextFile;
 use crate::lines::spot_in;
 use aom_debug_protocol::CodeLocation;
 use aom_diagnostics::instruction_statement;
@@ -15,13 +16,13 @@ use std::marker::Model;
 /// No name is longer than this.
 const LONGEST_NAME: usize = 32;
 
-/// The names of classes and of methods, that of number 0 first, the text in which they stand, and the name of its file.
+/// The names of classes and of methods, that of number 0 first, the text in which they stand, and the file in which that is told to be.
 #[derive(Drop)]
 pub struct SourceNames<'a> {
     classes: &'a [&'a [u8]],
     methods: &'a [&'a [u8]],
     text: &'a [u8],
-    file: &'a [u8],
+    file: TextFile<'a>,
 }
 
 impl<'a> Model for SourceNames<'a> {
@@ -31,7 +32,7 @@ impl<'a> Model for SourceNames<'a> {
 
     ghost Value = { NamesRecord };
 
-    ghost view = { λ n. record { classes = borrowed n.classes.now; methods = borrowed n.methods.now; text = n.text.now; file = n.file.now } };
+    ghost view = { λ n. record { classes = borrowed n.classes.now; methods = borrowed n.methods.now; text = n.text.now; file = n.file.name.now; source = n.file.source.now; lines = n.file.lines.now } };
 
     ghost invariant = { λ n. length n.text.now ≤ 2 ^ 20 };
 }
@@ -56,15 +57,15 @@ fn index_of(names: &[&[u8]], name: &[u8]) -> Option<usize>
 }
 
 impl<'a> SourceNames<'a> {
-    /// The names that stand in a text, and the name of its file.
+    /// The names that stand in a text, which is told to be in that file.
     pub fn new(
         classes: &'a [&'a [u8]],
         methods: &'a [&'a [u8]],
         text: &'a [u8],
-        file: &'a [u8],
+        file: TextFile<'a>,
     ) -> SourceNames<'a>
         requires { length text.now ≤ 2 ^ 20 }
-        ensures { result ≡ record { classes = borrowed classes.entry.now; methods = borrowed methods.entry.now; text = text.entry.now; file = file.entry.now } }
+        ensures { result ≡ record { classes = borrowed classes.entry.now; methods = borrowed methods.entry.now; text = text.entry.now; file = file.entry.name.now; source = file.entry.source.now; lines = file.entry.lines.now } }
     {
         SourceNames {
             classes,
@@ -82,7 +83,7 @@ impl<'a> SourceNames<'a> {
             classes: &[],
             methods: &[],
             text: &[],
-            file: &[],
+            file: TextFile::own(&[]),
         }
     }
 
@@ -109,25 +110,26 @@ impl<'a> SourceNames<'a> {
         index_of(self.methods, name)
     }
 
-    /// The statement that holds the instruction at a place.
+    /// What is told for the statement that holds the instruction at a place.
     pub(crate) fn statement(&self, spot: CodeLocation) -> Option<Statement<'a>>
         ensures { result ≡ statement_at self.now spot }
     {
-        instruction_statement(self.text, usize::from(spot.method), spot.place)
+        let found = instruction_statement(self.text, usize::from(spot.method), spot.place)?;
+        Some(self.file.told(found))
     }
 
-    /// The place of the first instruction in a line, if one stands there.
+    /// The place of the first instruction that is told to stand in a line, if one is.
     pub(crate) fn spot_in(&self, line: u32) -> Option<CodeLocation>
-        ensures { result ≡ spot_in self.now.text line }
+        ensures { result ≡ spot_in self.now.text self.now.lines line }
     {
-        spot_in(self.text, line)
+        spot_in(self.text, self.file.lines, line)
     }
 
     /// The name of the text's file.
     pub(crate) fn file(&self) -> &'a [u8]
         ensures { result.now ≡ self.now.file }
     {
-        self.file
+        self.file.name
     }
 
     /// Whether there is a text.

@@ -24,6 +24,7 @@ use crate::telling::Telling;
 use crate::warned::warned_text;
 use aom_commands::{ExitStatus, Fault, explore_bytes};
 use aom_debug::Reader;
+use aom_debug_symbols::TextFile;
 use aom_fault_injection::Tries;
 use aom_natives::{Native, NativeKind};
 use aom_transcript::{Sink, write_text};
@@ -160,11 +161,11 @@ pub fn explore<W: Sink, E: Sink>(
 }
 
 /// Runs an image under a script beside those natives as commands say, which come from a reader, and writes what they tell, by the names and the
-/// lines of its text, whose file has that name. After so many reads that give no end it is a fault. Of a program without an image nothing is read.
+/// lines of its text, or the lines of the source that this comes of. After so many reads that give no end it is a fault. Of a program without an image nothing is read.
 pub fn debug<R: Reader, W: Sink, E: Sink>(
     alloc: Global,
     program: Program<'_>,
-    file: &[u8],
+    file: TextFile<'_>,
     script: &[u8],
     limit: u32,
     boxes: Vec<Box<dyn Native>>,
@@ -174,7 +175,7 @@ pub fn debug<R: Reader, W: Sink, E: Sink>(
     errors: &mut E,
 ) -> ExitStatus
     requires owed { OweNothing (λ b. (⟦<dyn Native as Native>⟧ b.vtable).owed b.value) boxes.items }
-    ensures { let given = reading R.given R.ended R.failed reader.old reader.new in Answers Plain program.entry script.now ((W.out out.new ≡ W.out out.old) × IsUnread given) (λ image text. DebugAnswersBy (debug_names file.now text) image script.now limit (length boxes.items) reads given (over W.out W.failed out.old out.new)) (over E.out E.failed errors.old errors.new) result }
+    ensures { let given = reading R.given R.ended R.failed reader.old reader.new in Answers Plain program.entry script.now ((W.out out.new ≡ W.out out.old) × IsUnread given) (λ image text. DebugAnswersBy (debug_names file text) image script.now limit (length boxes.items) reads given (over W.out W.failed out.old out.new)) (over E.out E.failed errors.old errors.new) result }
 {
     match program.load(alloc) {
         Ok(loaded) => {

@@ -12,17 +12,18 @@ use crate::program::LoadedProgram;
 use crate::with_text::ImageText;
 use aom_commands::{ExitStatus, Fault};
 use aom_debug::{Reader, SourceNames, try_debug};
+use aom_debug_symbols::TextFile;
 use aom_diagnostics::{class_names, method_names};
 use aom_natives::Native;
 use aom_transcript::Sink;
 use std::alloc::Global;
 
-/// Debugs an image by the names and the lines of its text, which is in that file, and leaves its fault to be told. The names are looked up before anything is read.
+/// Debugs an image by the names and the lines of its text, which is told to be in that file, and leaves its fault to be told. The names are looked up before anything is read.
 fn try_debug_by_names<R: Reader, W: Sink>(
     alloc: Global,
     image: &[u8],
     text: &ImageText,
-    file: &[u8],
+    file: TextFile<'_>,
     script: &[u8],
     limit: u32,
     boxes: Vec<Box<dyn Native>>,
@@ -31,7 +32,7 @@ fn try_debug_by_names<R: Reader, W: Sink>(
     out: &mut W,
 ) -> Result<ExitStatus, Fault>
     requires owed { OweNothing (λ b. (⟦<dyn Native as Native>⟧ b.vtable).owed b.value) boxes.items }
-    ensures { Unreported (DebugAnswersBy (names_in file.now text.now) image.now script.now limit (length boxes.items) reads (reading R.given R.ended R.failed reader.old reader.new) (over W.out W.failed out.old out.new)) result }
+    ensures { Unreported (DebugAnswersBy (names_in file text.now) image.now script.now limit (length boxes.items) reads (reading R.given R.ended R.failed reader.old reader.new) (over W.out W.failed out.old out.new)) result }
 {
     let classes = class_names(alloc, text.bytes())?;
     let methods = method_names(alloc, text.bytes())?;
@@ -45,7 +46,7 @@ fn try_debug_by_names<R: Reader, W: Sink>(
 pub fn try_debug_told<R: Reader, W: Sink>(
     alloc: Global,
     program: &LoadedProgram,
-    file: &[u8],
+    file: TextFile<'_>,
     script: &[u8],
     limit: u32,
     boxes: Vec<Box<dyn Native>>,
@@ -54,7 +55,7 @@ pub fn try_debug_told<R: Reader, W: Sink>(
     out: &mut W,
 ) -> Result<ExitStatus, Fault>
     requires owed { OweNothing (λ b. (⟦<dyn Native as Native>⟧ b.vtable).owed b.value) boxes.items }
-    ensures { Unreported (DebugAnswersBy (debug_names file.now program.now.text) program.now.image script.now limit (length boxes.items) reads (reading R.given R.ended R.failed reader.old reader.new) (over W.out W.failed out.old out.new)) result }
+    ensures { Unreported (DebugAnswersBy (debug_names file program.now.text) program.now.image script.now limit (length boxes.items) reads (reading R.given R.ended R.failed reader.old reader.new) (over W.out W.failed out.old out.new)) result }
 {
     match program.text() {
         Some(text) => try_debug_by_names(

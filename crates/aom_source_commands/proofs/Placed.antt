@@ -1,6 +1,6 @@
 -- Diagnoses at the places of refusals that are told of a text are told of it too.
-use Rattle.std.proofs.Common.{◌≡◌, ◌∙◌, ◌<◌, All, List, ℕ, Option, Some, None, ap, arith, get_or, length, map, subst, sym}
-use Rattle.std.specs.Prelude.{⊤}
+use Rattle.std.proofs.Common.{◌≡◌, ◌∙◌, ◌<◌, [], ◌∷◌, All, List, ℕ, Option, Some, None, ap, arith, get_or, length, map, subst, sym}
+use Rattle.std.specs.Prelude.{⊤, ⊥}
 use Rattle.std.proofs.lemmas.List.{get_or-map, length-map}
 use Rattle.std.proofs.lemmas.List.Elements.{All-map, All-weaker}
 use Rattle.aom_source.specs.Refusals.{IsToldIn, place_of}
@@ -28,3 +28,9 @@ pub placed : (bytes : List ℕ) (faults : List Diagnosis) (refusals : List Refus
 placed bytes faults refusals same told =
     let all = All-map (IsIn bytes) place_of refusals (All-weaker _ _ (told_in bytes) refusals told) in
     unmapped (IsIn bytes) (λ d. Some d.place) faults (subst (All (IsIn bytes)) (sym same) all)
+
+-- where there are refusals there are diagnoses
+pub some_diagnoses : (faults : List Diagnosis) (refusals : List Refusal) → map (λ d. Some d.place) faults ≡ map place_of refusals → 0 < length refusals → faults ≡ [] → ⊥
+some_diagnoses [] [] same some none = absurd (omega arith)
+some_diagnoses [] (r ∷ refusals) same some none = absurd cc
+some_diagnoses (f ∷ faults) refusals same some none = absurd cc

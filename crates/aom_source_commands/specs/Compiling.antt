@@ -35,6 +35,10 @@ pub record IsOutput (emit : Emit) (source text : List ℕ) : Type 0 where
   pub members : HasMemberNames tokens written
   pub is : IsOutputOf emit tokens written text
 
+-- an image is denoted by a text that may be written of it
+abbrev pub IsTranslated : (source : List ℕ) → Type 0
+IsTranslated source = (text : List ℕ) × IsOutput emits.Text source text
+
 -- what was asked for; what is told of the source begins with a place of it
 abbrev pub IsCompiled : Emit → (name source : List ℕ) → Compiled → Type 0
 IsCompiled emit name source (Text t) = IsOutput emit source t.items

@@ -1,6 +1,7 @@
 //! What is wrong with a source, and what was added to it, for whoever tells it in a form of their own.
-ghost use Rattle.std.specs.Prelude.{◌≡◌, All, IfOk, Some, map};
+ghost use Rattle.std.specs.Prelude.{◌≡◌, ◌<◌, [], All, IfOk, Some, length, map};
 ghost use Rattle.aom_source.specs.Refusals.{IsToldIn, place_of};
+ghost use Rattle.aom_source_commands.specs.Compiling.{IsTranslated};
 ghost use Rattle.aom_source_tokens.specs.Places.{IsPlaceIn};
 
 use crate::notes::LineNotes;
@@ -22,6 +23,7 @@ pub struct Diagnosis {
 /// The faults that compiling tells of a source, in its order: the first of each method. There are none where it is compiled.
 pub fn diagnose(alloc: Global, source: &[u8]) -> Result<Vec<Diagnosis>, AllocError>
     ensures places { IfOk result (λ faults. All (λ d. IsPlaceIn source.now d.place) faults.items) }
+    ensures none { IfOk result (λ faults. faults.items ≡ [] → IsTranslated source.now) }
 {
     let tokens = match Tokens::of(alloc, source) {
         Ok(tokens) => tokens,
@@ -38,7 +40,7 @@ pub fn diagnose(alloc: Global, source: &[u8]) -> Result<Vec<Diagnosis>, AllocErr
 
 /// Refusals as diagnoses, each at its own place. Want of memory is none, and nor is an empty list.
 fn diagnoses_of(alloc: Global, refusals: &[Refusal<'_>]) -> Result<Vec<Diagnosis>, AllocError>
-    ensures each { IfOk result (λ faults. map (λ d. Some d.place) faults.items ≡ map place_of refusals.now) }
+    ensures { IfOk result (λ faults. (0 < length refusals.now) × (map (λ d. Some d.place) faults.items ≡ map place_of refusals.now)) }
 {
     if refusals.is_empty() {
         return Err(AllocError);

@@ -1,21 +1,34 @@
 //! What the verifier says of a source: it is asked of the text that the source is compiled to, and told in the source's places.
-ghost use Rattle.std.specs.Prelude.{IfOk};
+ghost use Rattle.std.specs.Prelude.{◌≡◌, IfOk};
 ghost use Rattle.aom_source_tokens.specs.Places.{IsPlaceIn};
-ghost use Rattle.aom_source_commands.specs.Judging.{DenotesAccepted, IsAccepted};
+ghost use Rattle.aom_source_commands.specs.Judging.{DenotesAccepted, IsAccepted, IsJudged, lines_in};
 ghost use Rattle.aom_source_commands.specs.Telling.{TellsPlace};
 
-use crate::compiling::Compiled;
 use crate::telling::{tell_over_budget, tell_refusals, tell_translator};
 use aom_budget::{BudgetFault, BudgetOwner};
 use aom_commands::{Fault, accept_bytes, assemble_bytes};
-use aom_source::{Refusal, Translation, Written, translate};
+use aom_source::{Origin, Refusal, Translation, Written, translate};
 use aom_source_tokens::{Keyword, Kind, Mark, Place, Tokens};
 use aom_verify::Refusal as VerifyRefusal;
 use std::alloc::{AllocError, Global};
 
+/// An assembly text that comes of a source, and the line of the source that each of its lines comes of. Lines count from 1.
+#[derive(Drop)]
+pub struct LinedText {
+    pub text: Vec<u8>,
+    pub lines: Vec<u32>,
+}
+
+/// What has come of a source that the verifier was asked of: its text, or what its author is told.
+#[derive(Drop)]
+pub enum Judged {
+    Accepted(LinedText),
+    Refused(Vec<u8>),
+}
+
 /// Compiles a source that has a name, and asks the verifier and the limits of what comes out: its text denotes an accepted image. What is refused is told with
 /// its place in the source.
-pub fn accept_source(alloc: Global, name: &[u8], source: &[u8]) -> Result<Compiled, AllocError>
+pub fn accept_source(alloc: Global, name: &[u8], source: &[u8]) -> Result<Judged, AllocError>
     ensures accepted { IfOk result (IsAccepted name.now source.now) }
 {
     let tokens = match Tokens::of(alloc, source) {
@@ -23,14 +36,14 @@ pub fn accept_source(alloc: Global, name: &[u8], source: &[u8]) -> Result<Compil
         Err(fault) => {
             let refusals = [Refusal::of_token(fault)];
             let told = tell_refusals(alloc, name, source, &refusals)?;
-            return Ok(Compiled::Refused(told));
+            return Ok(Judged::Refused(told));
         }
     };
     match translate(alloc, &tokens) {
         Ok(translation) => judge(alloc, name, &tokens, translation),
         Err(refusals) => {
             let told = tell_refusals(alloc, name, source, &refusals)?;
-            Ok(Compiled::Refused(told))
+            Ok(Judged::Refused(told))
         }
     }
 }
@@ -40,17 +53,36 @@ fn judge<'a>(
     name: &[u8],
     tokens: &Tokens<'a>,
     translation: Translation<'a>,
-) -> Result<Compiled, AllocError>
-    ensures { IfOk result (IsAccepted name.now tokens.now.bytes) }
+) -> Result<Judged, AllocError>
+    ensures { IfOk result (IsJudged name.now tokens.now translation.entry.written) }
 {
     match accept_text(alloc, &translation.written.text) {
-        Ok(()) => Ok(Compiled::Text(translation.into_text())),
+        Ok(()) => {
+            let lines = lines_of(alloc, tokens, &translation.written.origins)?;
+            let text = translation.into_text();
+            Ok(Judged::Accepted(LinedText { text, lines }))
+        }
         Err(Fault::Memory) => Err(AllocError),
         Err(fault) => {
             let told = tell_fault(alloc, name, tokens, &translation.written, &fault)?;
-            Ok(Compiled::Refused(told))
+            Ok(Judged::Refused(told))
         }
     }
+}
+
+/// The lines of the source that the lines of a text come of.
+fn lines_of(
+    alloc: Global,
+    tokens: &Tokens<'_>,
+    origins: &[Origin<'_>],
+) -> Result<Vec<u32>, AllocError>
+    ensures { IfOk result (λ lines. lines.items ≡ lines_in tokens.now origins.now) }
+{
+    let mut lines: Vec<u32> = Vec::new(alloc);
+    for origin in origins {
+        lines.push(tokens.get(origin.token as usize).place.line)?;
+    }
+    Ok(lines)
 }
 
 /// Whether a text denotes an accepted image.

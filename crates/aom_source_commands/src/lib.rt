@@ -18,7 +18,7 @@ mod words;
 
 pub use compiling::{Compiled, Emit, compile};
 pub use diagnosing::{Diagnosis, diagnose, notes_of_source};
-pub use judging::accept_source;
+pub use judging::{Judged, LinedText, accept_source};
 pub use notes::LineNotes;
 pub use scripts::script_of_source;
 pub use sending::compile_source;
