@@ -1,4 +1,5 @@
 mod Begins
+mod Lining
 mod Numbers
 mod Placed
 mod Shown

@@ -1,6 +1,6 @@
 -- Diagnoses at the places of refusals that are told of a text are told of it too.
 use Rattle.std.proofs.Common.{◌≡◌, ◌∙◌, ◌<◌, [], ◌∷◌, All, List, ℕ, Option, Some, None, ap, arith, get_or, length, map, subst, sym}
-use Rattle.std.specs.Prelude.{⊤, ⊥}
+use Rattle.std.specs.Prelude.{⊤}
 use Rattle.std.proofs.lemmas.List.{get_or-map, length-map}
 use Rattle.std.proofs.lemmas.List.Elements.{All-map, All-weaker}
 use Rattle.aom_source.specs.Refusals.{IsToldIn, place_of}

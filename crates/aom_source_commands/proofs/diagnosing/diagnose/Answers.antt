@@ -21,18 +21,21 @@ returns-in-Ok-translate c =
     let made = c.in-Ok-translate.ensures in
     record {
       places = search rules;
-      none = λ _. (c.in-Ok-translate.translation.written.text.items, record {
-        tokens = c.in-Ok.tokens;
-        of_source = search rules;
-        read = search rules;
-        written = c.in-Ok-translate.translation.written;
-        image = c.in-Ok-translate.translation.image;
-        denotes = made.image;
-        lines = made.lines;
-        names = made.names;
-        classes = made.classes;
-        methods = made.methods;
-        members = made.members;
-        is = search rules;
-      });
+      none = λ _. (
+        c.in-Ok-translate.translation.written.text.items,
+        record {
+          tokens = c.in-Ok.tokens;
+          of_source = search rules;
+          read = search rules;
+          written = c.in-Ok-translate.translation.written;
+          image = c.in-Ok-translate.translation.image;
+          denotes = made.image;
+          lines = made.lines;
+          names = made.names;
+          classes = made.classes;
+          methods = made.methods;
+          members = made.members;
+          is = search rules;
+        },
+      );
     }

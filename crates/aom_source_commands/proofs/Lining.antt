@@ -13,7 +13,9 @@ use Rattle.aom_source_commands.specs.declared.judging.Judged.TheVariants.{Accept
 pub judged : (name source : List ℕ) (tokens : Tokens) (written : Written) → tokens.bytes ≡ source → tokens_of source ≡ Ok (tokens.tokens, tokens.end)
     → line_count written.text.items ≡ length written.origins.items → HasClassNames tokens written → HasMethodNames tokens written
     → (j : Judged) → IsJudged name tokens written j → IsAccepted name source j
-judged name source tokens written of_source read count classes methods (Accepted t) is = (is.0, record {
+judged name source tokens written of_source read count classes methods (Accepted t) is = (
+  is.0,
+  record {
     tokens = tokens;
     of_source = of_source;
     read = read;
@@ -23,5 +25,6 @@ judged name source tokens written of_source read count classes methods (Accepted
     classes = classes;
     methods = methods;
     each = is.2;
-  })
+  },
+)
 judged name source tokens written of_source read count classes methods (Refused t) is = subst (λ s. TellsPlace name s t.items) of_source is
