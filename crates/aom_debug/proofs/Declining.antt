@@ -184,7 +184,7 @@ there_no_end verb condition (Some spot) e = mark_no_end (mark_at verb (numbered 
 
 in_no_end : (ns : NameLists) (verb : Verb) (condition : Condition) (line : Option ℕ) → mark_in ns verb condition line ≡ Err Ended → ⊥
 in_no_end ns verb condition None e = cc
-in_no_end ns verb condition (Some line) e = there_no_end verb condition (spot_in ns.text line) e
+in_no_end ns verb condition (Some line) e = there_no_end verb condition (spot_in ns.text ns.lines line) e
 
 named_no_end : (ns : NameLists) (verb : Verb) (condition : Condition) (name : List ℕ) (method : Option ℕ) (number : Number) →
     mark_named ns verb condition name method number ≡ Err Ended → ⊥
