@@ -175,7 +175,7 @@ pub fn debug<R: Reader, W: Sink, E: Sink>(
     errors: &mut E,
 ) -> ExitStatus
     requires owed { OweNothing (λ b. (⟦<dyn Native as Native>⟧ b.vtable).owed b.value) boxes.items }
-    ensures { let given = reading R.given R.ended R.failed reader.old reader.new in Answers Plain program.entry script.now ((W.out out.new ≡ W.out out.old) × IsUnread given) (λ image text. DebugAnswersBy (debug_names file text) image script.now limit (length boxes.items) reads given (over W.out W.failed out.old out.new)) (over E.out E.failed errors.old errors.new) result }
+    ensures { let given = reading R.given R.ended R.failed reader.old reader.new in Answers Plain program.entry script.now ((W.out out.new ≡ W.out out.old) × IsUnread given) (λ image text. DebugAnswersBy (debug_names file.entry text) image script.now limit (length boxes.items) reads given (over W.out W.failed out.old out.new)) (over E.out E.failed errors.old errors.new) result }
 {
     match program.load(alloc) {
         Ok(loaded) => {

@@ -32,7 +32,7 @@ fn try_debug_by_names<R: Reader, W: Sink>(
     out: &mut W,
 ) -> Result<ExitStatus, Fault>
     requires owed { OweNothing (λ b. (⟦<dyn Native as Native>⟧ b.vtable).owed b.value) boxes.items }
-    ensures { Unreported (DebugAnswersBy (names_in file text.now) image.now script.now limit (length boxes.items) reads (reading R.given R.ended R.failed reader.old reader.new) (over W.out W.failed out.old out.new)) result }
+    ensures { Unreported (DebugAnswersBy (names_in file.entry text.now) image.now script.now limit (length boxes.items) reads (reading R.given R.ended R.failed reader.old reader.new) (over W.out W.failed out.old out.new)) result }
 {
     let classes = class_names(alloc, text.bytes())?;
     let methods = method_names(alloc, text.bytes())?;
@@ -55,7 +55,7 @@ pub fn try_debug_told<R: Reader, W: Sink>(
     out: &mut W,
 ) -> Result<ExitStatus, Fault>
     requires owed { OweNothing (λ b. (⟦<dyn Native as Native>⟧ b.vtable).owed b.value) boxes.items }
-    ensures { Unreported (DebugAnswersBy (debug_names file program.now.text) program.now.image script.now limit (length boxes.items) reads (reading R.given R.ended R.failed reader.old reader.new) (over W.out W.failed out.old out.new)) result }
+    ensures { Unreported (DebugAnswersBy (debug_names file.entry program.now.text) program.now.image script.now limit (length boxes.items) reads (reading R.given R.ended R.failed reader.old reader.new) (over W.out W.failed out.old out.new)) result }
 {
     match program.text() {
         Some(text) => try_debug_by_names(
