@@ -1,6 +1,6 @@
 //! How runs ended.
 ghost use Rattle.std.specs.Prelude.{◌≡◌, ◌+◌, ◌<◌, ◌≤◌, ◌-◌, ◌^◌, ◌++◌, length};
-ghost use Rattle.aom_fault_injection.specs.OutcomeTables.{closing_text, counted, nothing_counted, summary_text};
+ghost use Rattle.aom_fault_injection.specs.OutcomeTables.{closing_text, counted, nothing_counted, summary_text, unexpected_text};
 
 use crate::Injection;
 use aom_transcript::{Ending, Text};
@@ -63,9 +63,9 @@ impl OutcomeCounts {
         }
     }
 
-    /// The closing lines: the first pair that was left out, if there is one, and what was counted.
-    pub fn closing(&self, left: Option<Injection>) -> Closing
-        ensures { result ≡ closing_text left self.now }
+    /// The closing lines: the first pair that was left out, if there is one, what was counted, and how many did not end as expected, if that is asked.
+    pub fn closing(&self, left: Option<Injection>, unexpected: Option<usize>) -> Closing
+        ensures { result ≡ closing_text left self.now unexpected }
     {
         let mut text = Closing::new();
         if let Some(injection) = left {
@@ -74,13 +74,15 @@ impl OutcomeCounts {
             text.add(b"\n");
         }
         self.add_to(&mut text);
+        add_unexpected(unexpected, &mut text);
         text
     }
 
     /// Adds what was counted.
     fn add_to(&self, text: &mut Closing)
         requires { length text.old ≤ 54 }
-        ensures { text.new ≡ text.old ++ summary_text self.now }
+        ensures text { text.new ≡ text.old ++ summary_text self.now }
+        ensures short { length text.new ≤ length text.old + 165 }
     {
         text.add_count(b"tries ", self.tries);
         text.add_count(b" stopped ", self.stopped);
@@ -88,6 +90,17 @@ impl OutcomeCounts {
         text.add_count(b" left ", self.left);
         text.add_count(b" limit ", self.limit);
         text.add_count(b" error ", self.error);
+        text.add(b"\n");
+    }
+}
+
+/// Adds how many runs did not end as expected, if that is asked.
+fn add_unexpected(unexpected: Option<usize>, text: &mut Closing)
+    requires { length text.old ≤ 219 }
+    ensures { text.new ≡ text.old ++ unexpected_text unexpected }
+{
+    if let Some(count) = unexpected {
+        text.add_count(b"unexpected ", count);
         text.add(b"\n");
     }
 }
