@@ -1,10 +1,10 @@
 -- Lines of runs into which faults are injected, one after the other.
 use Rattle.std.proofs.lemmas.Bool.Decides.{nat_tests}
-use Rattle.std.proofs.Common.{◌≡◌, ◌<◌, ◌≤◌, ℕ, suc, ◌+◌, ◌||◌, Bool, false, true, List, [], ◌∷◌, ◌++◌, Option, Some, length, map, option_map, take, get_or}
+use Rattle.std.proofs.Common.{◌≡◌, ◌<◌, ◌≤◌, ℕ, suc, ◌+◌, ◌-◌, ◌||◌, Bool, false, true, List, [], ◌∷◌, ◌++◌, Option, Some, length, map, option_map, take, get_or}
 use Rattle.std.proofs.Common.{refl, sym, ap, subst, ◌∙◌, arith, inl, inr, cond}
 use Rattle.std.specs.Prelude.{◌⊎◌, if◌then◌else◌}
-use Rattle.std.proofs.Math.Seq.{take-suc}
-use Rattle.std.proofs.lemmas.List.{append-nil, append_assoc, length-map, map-append, take_all}
+use Rattle.std.proofs.Math.Seq.{take-append_seam, take-suc}
+use Rattle.std.proofs.lemmas.List.{append-nil, append_assoc, length-append, length-map, map-append, take_all}
 use Rattle.std.proofs.lemmas.List.Sums.{count_by-le-length, sum_by-append}
 use Rattle.std.proofs.lemmas.Grind.{fold-append}
 use Rattle.aom_image.specs.Image.{Image}
@@ -23,7 +23,7 @@ use Rattle.aom_transcript.specs.Sinks.{after}
 use Rattle.aom_run.specs.declared.outcome.Outcome.{Outcome}
 use Rattle.aom_script.specs.Script.{Script}
 use Rattle.aom_commands.proofs.TranscriptLemmas.{after_both, after_none, cut_next}
-use Rattle.aom_transcript.specs.Text.{transcript}
+use Rattle.aom_transcript.specs.Text.{ended, transcript}
 use Rattle.aom_fault_injection.specs.Expected.{Exploration, is_judged, is_unexpected}
 use Rattle.aom_fault_injection.specs.Planned.{clients_among, deaths_of, marks_times, natives_among, pairs_of, part_of, planned, some_pairs, unplanned}
 use Rattle.aom_fault_injection.specs.declared.expected.ExpectedEnding.{ExpectedEnding}
@@ -63,6 +63,13 @@ says_still text mid sent said before now failed = record {
 pub says_nothing : (sent : Sent) → sent.now ≡ sent.before → Says [] sent
 says_nothing sent same = record { count = 0; part = same ∙ after_none sent.before; whole = λ lives. same ∙ after_none sent.before }
 
+-- a line without its line feed
+pub without_feed : (text : List ℕ) → take (length (ended text) - 1) (ended text) ≡ text
+without_feed text =
+    let long : length (text ++ 10 ∷ []) ≡ length text + 1 = length-append text (10 ∷ []) in
+    let cut : length (text ++ 10 ∷ []) - 1 ≡ length text = omega (arith, long) in
+    ap (λ n. take n (ended text)) cut ∙ take-append_seam text (10 ∷ [])
+
 -- ---- runs that are told, one after the other
 
 -- where no end is expected all are
@@ -73,7 +80,7 @@ none_unexpected (last ∷ lasts) = none_unexpected lasts
 -- one that is not is one of a run that is judged
 pub judges : (expected : List ExpectedEnding) (lasts : List RunEnd) → 0 < unexpected_among expected lasts → is_judged expected ≡ true
 judges [] lasts some = let none = none_unexpected lasts in absurd (omega (arith, some, none))
-judges (one ∷ others) lasts some = grind arith
+judges (one ∷ others) lasts some = grind (arith, nat_tests)
 
 counts_one : (outcome_counts : OutcomeCounts) (ending : Ending) → (counted outcome_counts ending).tries ≡ outcome_counts.tries + 1
 counts_one outcome_counts x = grind arith
@@ -103,16 +110,16 @@ module _ (p : Image) (script : Script) (limit natives : ℕ) (asked : Exploratio
     pub few : unexpected ≤ outcome_counts.tries
 
   -- before the tries there is the run as it is, or none
+  one_told : (outcomes_of (plain ∷ [])).tries ≡ 1
+  one_told = counts_one nothing_counted plain.ending
+
   tries_first : (b : Bool) → (outcomes_of (if b then plain ∷ [] else [])).tries ≤ 1
-  tries_first true = let one = counts_one nothing_counted plain.ending in omega (arith, one)
-  tries_first false = omega arith
+  tries_first true = subst (λ n. n ≤ 1) (sym one_told) (omega arith)
+  tries_first false = let none : 0 ≤ 1 = omega arith in none
 
   few_first : (b : Bool) → unexpected_among asked.expected (if b then plain ∷ [] else []) ≤ (outcomes_of (if b then plain ∷ [] else [])).tries
-  few_first true =
-      let one = counts_one nothing_counted plain.ending in
-      let most = at_most_one asked.expected plain in
-      omega (arith, one, most)
-  few_first false = omega arith
+  few_first true = subst (λ n. unexpected_among asked.expected (plain ∷ []) ≤ n) (sym one_told) (at_most_one asked.expected plain)
+  few_first false = let none : 0 ≤ 0 = omega arith in none
 
   pub start : (outcome_counts : OutcomeCounts) (unexpected : ℕ) (sent : Sent) → outcome_counts ≡ outcomes_of (told_runs asked plain []) →
       unexpected ≡ unexpected_among asked.expected (told_runs asked plain []) → Says (base_line asked plain) sent → SoFar 0 outcome_counts unexpected sent
@@ -123,8 +130,9 @@ module _ (p : Image) (script : Script) (limit natives : ℕ) (asked : Exploratio
     says = subst (λ t. Says t sent) (sym (append-nil (base_line asked plain))) says;
     counts = counts;
     judged = judged;
-    many = rw counts (tries_first asked.base);
-    few = rw (counts, judged) (few_first asked.base);
+    many = subst (λ (t : OutcomeCounts). t.tries ≤ 1) (sym counts) (tries_first asked.base);
+    few = subst (λ n. n ≤ outcome_counts.tries) (sym judged)
+        (subst (λ (t : OutcomeCounts). unexpected_among asked.expected (told_runs asked plain []) ≤ t.tries) (sym counts) (few_first asked.base));
   }
 
   -- the runs that are told, with one try more
@@ -221,7 +229,7 @@ explored_so p script limit natives asked plain injections left outcome_counts un
           text = b.text;
           tried = subst (λ xs. EachTried p script limit natives asked.expected xs b.lasts b.text) (all.all lives) b.tried;
           judged = all.judged;
-          says = subst (λ c. Says (lines ++ closing asked left c unexpected) sent) all.counts
+          says = subst (λ (c : OutcomeCounts). Says (lines ++ closing asked left c unexpected) sent) all.counts
               (says_on lines (closing asked left outcome_counts unexpected) mid sent b.says lives same (says lives));
         })
     go true fails =

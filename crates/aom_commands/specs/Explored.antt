@@ -5,7 +5,6 @@ use Rattle.aom_semantics.specs.Places.{count_cells}
 use Rattle.aom_semantics.specs.State.{State}
 use Rattle.aom_semantics.specs.World.{Environment, Run_of}
 use Rattle.aom_transcript.specs.Text.{end_text, ended, transcript}
-use Rattle.aom_transcript.specs.declared.line.Ending.{Ending}
 use Rattle.aom_transcript.specs.declared.line.Line.{Line}
 use Rattle.aom_script.specs.Script.{Script, WantsMemory}
 use Rattle.aom_script.specs.declared.fault.ScriptFault.{ScriptFault}
@@ -91,12 +90,12 @@ abbrev pub unexpected_among : List ExpectedEnding → List RunEnd → ℕ
 unexpected_among expected lasts = count_by (λ last. is_unexpected expected last.ending last.cells) lasts
 
 -- that number, where ends are judged
-abbrev pub judged : List ExpectedEnding → ℕ → Option ℕ
-judged expected count = if is_judged expected then Some count else None
+abbrev pub judged_count : List ExpectedEnding → ℕ → Option ℕ
+judged_count expected count = if is_judged expected then Some count else None
 
 -- what is written at the end
 abbrev pub closing : Exploration → Option Injection → OutcomeCounts → (unexpected : ℕ) → List ℕ
-closing asked left outcome_counts unexpected = if tells_counts asked then closing_text left outcome_counts (judged asked.expected unexpected) else []
+closing asked left outcome_counts unexpected = if tells_counts asked then closing_text left outcome_counts (judged_count asked.expected unexpected) else []
 
 -- ---- what went out
 

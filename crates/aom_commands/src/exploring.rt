@@ -11,7 +11,7 @@ ghost use Rattle.aom_fault_injection.specs.OutcomeTables.{counted, nothing_count
 ghost use Rattle.aom_fault_injection.specs.Planned.{AreTimes};
 ghost use Rattle.aom_commands.specs.Acceptable.{IsSerialized};
 ghost use Rattle.aom_commands.specs.Beside.{AllNew, AreNew};
-ghost use Rattle.aom_commands.specs.Explored.{AcceptedExplores, Begun, BreaksOff, ExploreAnswers, ExploreAnswersOf, Explored, HasPlain, IsLast, Plans, RefusesTry, Tried, TriesAll, base_line, closing, judged, kept_text, outcomes_of, run_line, told_runs, unexpected_among};
+ghost use Rattle.aom_commands.specs.Explored.{AcceptedExplores, Begun, BreaksOff, ExploreAnswers, ExploreAnswersOf, Explored, HasPlain, IsLast, Plans, RefusesTry, Tried, TriesAll, base_line, closing, judged_count, kept_text, outcomes_of, run_line, told_runs, unexpected_among};
 ghost use Rattle.aom_commands.specs.Headline.{HasNatives, IsFreshOf, IsSilent, RefusesBoot, Says, outside_of, over};
 ghost use Rattle.aom_commands.specs.Unreported.{Unreported};
 
@@ -86,7 +86,7 @@ impl Told {
 
     /// How many runs did not end as expected, where ends are judged.
     fn judged(&self, options: ExploreOptions<'_>) -> Option<usize>
-        ensures { result ≡ judged options.entry.expected.now self.now.unexpected }
+        ensures { result ≡ judged_count options.entry.expected.now self.now.unexpected }
     {
         if options.judges() {
             Some(self.unexpected)

@@ -1,7 +1,8 @@
 //! Which ends of runs are expected.
 ghost use Rattle.std.specs.Prelude.{◌≡◌};
+ghost use Rattle.std.specs.List.{list_any};
 ghost use Rattle.aom_text.specs.Numbers.{number_of};
-ghost use Rattle.aom_fault_injection.specs.Expected.{cells_said, code_said, each_named, ending_coded, ending_named, expected_said, fits, is_same, is_unexpected, last_line, mark_text};
+ghost use Rattle.aom_fault_injection.specs.Expected.{cells_said, code_said, each_named, ending_coded, ending_named, expected_by, expected_said, fits, is_same, is_unexpected, last_line, mark_text};
 
 use aom_text::{Number, WordCursor};
 use aom_transcript::Ending;
@@ -29,20 +30,7 @@ impl ExpectedEnding {
     pub fn of_words(text: &[u8]) -> Option<ExpectedEnding>
         ensures { result ≡ expected_said text.now }
     {
-        let mut words = WordCursor::of(text);
-        let word = words.next()?;
-        match (words.next(), words.next(), words.next()) {
-            (None, _, _) => each_named(word),
-            (Some(cells), Some(count), None) => {
-                last_line(ending_named(word), cells, cells_said(count))
-            }
-            (Some(code), Some(cells), Some(count)) if words.is_empty() => last_line(
-                ending_coded(word, code_said(code)),
-                cells,
-                cells_said(count),
-            ),
-            _ => None,
-        }
+        expected_by(WordCursor::of(text))
     }
 
     /// Whether it expects a run that ended so, with so many cells left.
@@ -67,7 +55,14 @@ impl ExpectedEnding {
 pub fn is_unexpected(expected: &[ExpectedEnding], ending: Ending, cells: usize) -> bool
     ensures { result ≡ is_unexpected expected.now ending cells }
 {
-    !expected.is_empty() && !expected.iter().any(|one| one.fits(ending, cells))
+    !expected.is_empty() && !is_expected(expected, ending, cells)
+}
+
+/// Whether one of these expects a run that ended so.
+fn is_expected(expected: &[ExpectedEnding], ending: Ending, cells: usize) -> bool
+    ensures { result ≡ list_any (λ one. fits one ending cells) expected.now }
+{
+    expected.iter().any(|one| one.fits(ending, cells))
 }
 
 /// What stands at the end of the line of a run that ended so, with so many cells left.
@@ -91,6 +86,25 @@ fn is_same(one: Ending, other: Ending) -> bool
         | (Ending::Waiting, Ending::Waiting)
         | (Ending::Limit, Ending::Limit) => true,
         _ => false,
+    }
+}
+
+/// The ending that words say.
+fn expected_by(mut words: WordCursor) -> Option<ExpectedEnding>
+    ensures { result ≡ expected_by words.entry }
+{
+    let word = words.next()?;
+    match (words.next(), words.next(), words.next()) {
+        (None, _, _) => each_named(word),
+        (Some(cells), Some(count), None) => {
+            last_line(ending_named(word), cells, cells_said(count))
+        }
+        (Some(code), Some(cells), Some(count)) if words.is_empty() => last_line(
+            ending_coded(word, code_said(code)),
+            cells,
+            cells_said(count),
+        ),
+        _ => None,
     }
 }
 
