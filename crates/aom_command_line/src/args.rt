@@ -251,7 +251,9 @@ pub fn expect_arg<'a>(alloc: Global) -> Arg<'a>
     Arg::new(alloc, "expect")
         .long("expect")
         .value_name("ENDING")
-        .help("An end that is expected: stopped, waiting, left, limit, error, or a last line's words; runs that end otherwise are marked and counted")
+        .help(
+            "An end that is expected: stopped, waiting, left, limit, error, or a last line's words; runs that end otherwise are marked and counted",
+        )
         .action(ArgAction::Append)
 }
 

@@ -481,7 +481,9 @@ fn endings_of(alloc: Global, words: &[&str]) -> Result<Vec<ExpectedEnding>, Word
 
 /// What is told of a word that says no ending.
 fn no_ending(alloc: Global, word: &str) -> Result<String, AllocError> {
-    format!(in alloc; "error: invalid value '{word}' for '--expect <ENDING>': it takes stopped, waiting, left, limit, error, or what a last line says behind end, as 'stopped cells 0'\n")
+    format!(in alloc;
+        "error: invalid value '{word}' for '--expect <ENDING>': it takes stopped, waiting, left, limit, error, or what a last line says behind end, as 'stopped cells 0'\n"
+    )
 }
 
 /// What `explore` is to try.

@@ -1,6 +1,6 @@
 -- What is known of an outcome, of a script and of the image is what the status answers.
 use Rattle.std.proofs.lemmas.Bool.Decides.{nat_tests}
-use Rattle.std.proofs.Common.{◌≡◌, ◌<◌, ◌∙◌, Bool, List, None, Option, ℕ, Result, Ok, Err, true, false, ap, arith, pos, refl, sym, subst, inl, inr}
+use Rattle.std.proofs.Common.{◌≡◌, ◌<◌, ◌∙◌, Bool, List, None, Option, ℕ, Result, Ok, Err, true, false, zero, suc, ap, arith, pos, refl, sym, subst, inl, inr}
 use Rattle.aom_transcript.specs.declared.line.Line.{Line}
 use Rattle.aom_semantics.specs.State.{State}
 use Rattle.aom_semantics.specs.World.{Environment, Reaches, Run_of, boot_state}
@@ -44,6 +44,7 @@ use Rattle.aom_fault_injection.specs.declared.injection.Injection.{Injection}
 use Rattle.aom_fault_injection.specs.Expected.{Exploration, is_judged}
 use Rattle.aom_commands.specs.declared.exploring.RunEnd.{RunEnd}
 use Rattle.aom_commands.proofs.Tries.{judges}
+use Rattle.aom_commands.specs.Unreported.{Unreported}
 use Rattle.aom_commands.specs.Headline.RunBreaks.{machine_wants_memory, output_fails, script_wants_memory}
 
 -- ---- a run
@@ -235,6 +236,25 @@ module _ (bytes text : List ℕ) (limit natives : ℕ) (p : Image) (script : Scr
       0 < unexpected → IsSilent errors → AcceptedExplores bytes text limit natives asked out errors statuses.Unfinished
   explored_otherwise unexpected enough all lives some silent =
       (judged_so p script limit natives asked unexpected out all lives some, unexpected, some, explores_all unexpected enough all lives silent)
+
+-- what a call has come to whose runs were told, or whose output failed
+pub told_so : (bytes text : List ℕ) (limit natives : ℕ) (p : Image) (script : Script) → IsAcceptable p → AllRunWell p → IsSerialized bytes p →
+    denoted text ≡ Ok script → (asked : Exploration) (out : Sent) (unexpected : ℕ) (found : Result ExitStatus Fault) → HasNatives p natives →
+    Explored p script limit natives asked unexpected out → (out.failed ≡ true → found ≡ Err faults.Write) →
+    (out.failed ≡ false → unexpected ≡ 0 → found ≡ Ok statuses.Done) → (out.failed ≡ false → 0 < unexpected → found ≡ Ok statuses.Unfinished) →
+    Unreported (AcceptedExplores bytes text limit natives asked out) found
+told_so bytes text limit natives p script acceptable well serialized denotes asked out unexpected found enough all fails none some =
+    go out.failed unexpected refl refl
+  where
+    go : (failed : Bool) (n : ℕ) → out.failed ≡ failed → unexpected ≡ n → Unreported (AcceptedExplores bytes text limit natives asked out) found
+    go true n is same = subst (Unreported (AcceptedExplores bytes text limit natives asked out)) (sym (fails is))
+        (λ errors status reported. cut_off bytes text limit natives p script acceptable well serialized denotes asked out errors status unexpected enough all is reported)
+    go false zero is same = subst (Unreported (AcceptedExplores bytes text limit natives asked out)) (sym (none is same))
+        (λ errors silent. explored bytes text limit natives p script acceptable well serialized denotes asked out errors unexpected enough all is same silent)
+    go false (suc n) is same =
+        let more : 0 < unexpected = omega (arith, same) in
+        subst (Unreported (AcceptedExplores bytes text limit natives asked out)) (sym (some is more))
+        (λ errors silent. explored_otherwise bytes text limit natives p script acceptable well serialized denotes asked out errors unexpected enough all is more silent)
 
 pub untried : (bytes text : List ℕ) (limit natives : ℕ) (asked : Exploration) (fault : ScriptFault) (line : Fault) (out errors : Sent) (status : ExitStatus) →
     Accepts bytes → RefusesOrWants text fault → IsSilent out

@@ -2,10 +2,10 @@
 use Rattle.std.proofs.lemmas.Bool.Decides.{nat_tests}
 use Rattle.std.proofs.Common.{◌≡◌, ◌<◌, ◌≤◌, ℕ, suc, ◌+◌, ◌-◌, ◌||◌, Bool, false, true, List, [], ◌∷◌, ◌++◌, Option, Some, length, map, option_map, take, get_or}
 use Rattle.std.proofs.Common.{refl, sym, ap, subst, ◌∙◌, arith, inl, inr, cond}
-use Rattle.std.specs.Prelude.{◌⊎◌, if◌then◌else◌}
+use Rattle.std.specs.Prelude.{◌⊎◌, IfOk, Result, codes, if◌then◌else◌}
 use Rattle.std.proofs.Math.Seq.{take-append_seam, take-suc}
 use Rattle.std.proofs.lemmas.List.{append-nil, append_assoc, length-append, length-map, map-append, take_all}
-use Rattle.std.proofs.lemmas.List.Sums.{count_by-le-length, sum_by-append}
+use Rattle.std.proofs.lemmas.List.Sums.{count_by-le-length, sum_by_push}
 use Rattle.std.proofs.lemmas.Grind.{fold-append}
 use Rattle.aom_image.specs.Image.{Image}
 use Rattle.aom_semantics.specs.Places.{count_cells}
@@ -32,10 +32,11 @@ use Rattle.aom_fault_injection.specs.declared.injection.Injection.{Injection}
 use Rattle.aom_fault_injection.specs.declared.injection.Injection.TheVariants.{Refusal}
 use Rattle.aom_fault_injection.specs.declared.tries.Tries.{Tries}
 use Rattle.aom_commands.specs.Explored.{Begun, EachTried, Explored, Finished, HasPlain, IsLast, Plans, Tried, TriesAll}
-use Rattle.aom_commands.specs.Explored.{base_line, closing, kept_text, outcomes_of, told_runs, unexpected_among}
+use Rattle.aom_commands.specs.Explored.{base_line, closing, kept_text, outcomes_of, run_line, told_runs, unexpected_among}
 use Rattle.aom_commands.specs.Explored.EachTried.{and_one, none}
 use Rattle.aom_commands.specs.Headline.{HasNatives, RefusesBoot, Says, Sent, outside_of}
 use Rattle.aom_commands.specs.declared.exploring.RunEnd.{RunEnd}
+use Rattle.aom_commands.specs.declared.exploring.Told.{Told}
 use Rattle.aom_commands.specs.declared.faults.Fault.{Fault}
 use Rattle.aom_commands.specs.declared.faults.Fault.TheVariants as faults
 
@@ -70,7 +71,45 @@ without_feed text =
     let cut : length (text ++ 10 ∷ []) - 1 ≡ length text = omega (arith, long) in
     ap (λ n. take n (ended text)) cut ∙ take-append_seam text (10 ∷ [])
 
+pub has_feed : (line text : List ℕ) → line ≡ ended text → 1 ≤ length line
+has_feed line text is =
+    let long : length (text ++ 10 ∷ []) ≡ length text + 1 = length-append text (10 ∷ []) in
+    let one : 1 ≤ length (text ++ 10 ∷ []) = omega (arith, long) in
+    subst (λ (t : List ℕ). 1 ≤ length t) (sym is) one
+
 -- ---- runs that are told, one after the other
+
+-- that of the script as it is, where it is told
+pub base_told : {A E : Type 0} (asked : Exploration) (plain : RunEnd) (sent : Sent) (result : Result A E) → asked.base ≡ true →
+    IfOk result (λ _. Says (run_line asked.expected (codes "as it is") plain) sent) → IfOk result (λ _. Says (base_line asked plain) sent)
+base_told asked plain sent result is says =
+    subst (λ (b : Bool). IfOk result (λ _. Says (if b then run_line asked.expected (codes "as it is") plain else []) sent)) (sym is) says
+
+pub base_counted : {E : Type 0} (asked : Exploration) (plain : RunEnd) (result : Result Told E) → asked.base ≡ true →
+    IfOk result (λ told. told.outcome_counts ≡ outcomes_of (plain ∷ [])) → IfOk result (λ told. told.outcome_counts ≡ outcomes_of (told_runs asked plain []))
+base_counted asked plain result is counts =
+    subst (λ (b : Bool). IfOk result (λ told. told.outcome_counts ≡ outcomes_of (if b then plain ∷ [] else []))) (sym is) counts
+
+pub base_judged : {E : Type 0} (asked : Exploration) (plain : RunEnd) (result : Result Told E) → asked.base ≡ true →
+    IfOk result (λ told. told.unexpected ≡ unexpected_among asked.expected (plain ∷ [])) →
+    IfOk result (λ told. told.unexpected ≡ unexpected_among asked.expected (told_runs asked plain []))
+base_judged asked plain result is judged =
+    subst (λ (b : Bool). IfOk result (λ told. told.unexpected ≡ unexpected_among asked.expected (if b then plain ∷ [] else []))) (sym is) judged
+
+-- and where it is not
+pub untold_base : (asked : Exploration) (plain : RunEnd) (sent : Sent) → asked.base ≡ false → sent.now ≡ sent.before → Says (base_line asked plain) sent
+untold_base asked plain sent is same =
+    subst (λ (b : Bool). Says (if b then run_line asked.expected (codes "as it is") plain else []) sent) (sym is) (says_nothing sent same)
+
+pub unbased_counts : (asked : Exploration) (plain : RunEnd) (outcome_counts : OutcomeCounts) → asked.base ≡ false → outcome_counts ≡ nothing_counted →
+    outcome_counts ≡ outcomes_of (told_runs asked plain [])
+unbased_counts asked plain outcome_counts is none =
+    subst (λ (b : Bool). outcome_counts ≡ outcomes_of (if b then plain ∷ [] else [])) (sym is) none
+
+pub unbased_judged : (asked : Exploration) (plain : RunEnd) (unexpected : ℕ) → asked.base ≡ false → unexpected ≡ 0 →
+    unexpected ≡ unexpected_among asked.expected (told_runs asked plain [])
+unbased_judged asked plain unexpected is none =
+    subst (λ (b : Bool). unexpected ≡ unexpected_among asked.expected (if b then plain ∷ [] else [])) (sym is) none
 
 -- where no end is expected all are
 none_unexpected : (lasts : List RunEnd) → unexpected_among [] lasts ≡ 0
@@ -91,11 +130,12 @@ outcomes_more lasts last =
     ap outcome_counts_of (map-append ending lasts (last ∷ [])) ∙ fold-append counted nothing_counted (map ending lasts) (last.ending ∷ [])
 
 unexpected_more : (expected : List ExpectedEnding) (lasts : List RunEnd) (last : RunEnd) →
-    unexpected_among expected (lasts ++ last ∷ []) ≡ unexpected_among expected lasts + unexpected_among expected (last ∷ [])
-unexpected_more expected lasts last = sum_by-append (λ (l : RunEnd). cond (is_unexpected expected l.ending l.cells) 1 0) lasts (last ∷ [])
+    unexpected_among expected (lasts ++ last ∷ []) ≡ unexpected_among expected lasts + cond (is_unexpected expected last.ending last.cells) 1 0
+unexpected_more expected lasts last = sum_by_push (λ (l : RunEnd). cond (is_unexpected expected l.ending l.cells) 1 0) lasts last
 
-at_most_one : (expected : List ExpectedEnding) (last : RunEnd) → unexpected_among expected (last ∷ []) ≤ 1
-at_most_one expected last = count_by-le-length (λ (l : RunEnd). is_unexpected expected l.ending l.cells) (last ∷ [])
+at_most_one : (b : Bool) → cond {A = ℕ} b 1 0 ≤ 1
+at_most_one true = omega arith
+at_most_one false = omega arith
 
 module _ (p : Image) (script : Script) (limit natives : ℕ) (asked : Exploration) (plain : RunEnd) (injections : List Injection) where
   -- the first so many were tried, and how the runs that are told ended is counted
@@ -118,7 +158,8 @@ module _ (p : Image) (script : Script) (limit natives : ℕ) (asked : Exploratio
   tries_first false = let none : 0 ≤ 1 = omega arith in none
 
   few_first : (b : Bool) → unexpected_among asked.expected (if b then plain ∷ [] else []) ≤ (outcomes_of (if b then plain ∷ [] else [])).tries
-  few_first true = subst (λ n. unexpected_among asked.expected (plain ∷ []) ≤ n) (sym one_told) (at_most_one asked.expected plain)
+  few_first true = subst (λ n. unexpected_among asked.expected (plain ∷ []) ≤ n) (sym one_told)
+      (count_by-le-length (λ (l : RunEnd). is_unexpected asked.expected l.ending l.cells) (plain ∷ []))
   few_first false = let none : 0 ≤ 0 = omega arith in none
 
   pub start : (outcome_counts : OutcomeCounts) (unexpected : ℕ) (sent : Sent) → outcome_counts ≡ outcomes_of (told_runs asked plain []) →
@@ -145,7 +186,7 @@ module _ (p : Image) (script : Script) (limit natives : ℕ) (asked : Exploratio
   pub one_more : (place : ℕ) (old new : OutcomeCounts) (before after : ℕ) (mid sent : Sent) (injection other : Injection) (last : RunEnd) (line : List ℕ) →
       place < length injections → injection ≡ get_or injections place other → SoFar place old before mid → mid.failed ≡ false → mid.before ≡ sent.before →
       Tried p script limit natives asked.expected injection last line → Says line (record { before = mid.now; now = sent.now; failed = sent.failed }) →
-      new ≡ counted old last.ending → after ≡ before + unexpected_among asked.expected (last ∷ []) → SoFar (place + 1) new after sent
+      new ≡ counted old last.ending → after ≡ before + cond (is_unexpected asked.expected last.ending last.cells) 1 0 → SoFar (place + 1) new after sent
   one_more place old new before after mid sent injection other last line within is far lives same tried says counts judged =
       let more : place + 1 ≡ suc place = omega arith in
       let next : take (place + 1) injections ≡ take place injections ++ injection ∷ [] =
@@ -153,7 +194,7 @@ module _ (p : Image) (script : Script) (limit natives : ℕ) (asked : Exploratio
       let told = told_runs asked plain far.lasts in
       let grown = told_more asked.base far.lasts last in
       let tries : new.tries ≡ old.tries + 1 = ap (λ (t : OutcomeCounts). t.tries) counts ∙ counts_one old last.ending in
-      let most = at_most_one asked.expected last in
+      let most = at_most_one (is_unexpected asked.expected last.ending last.cells) in
       let many = far.many in
       let few = far.few in
       record {
@@ -164,7 +205,7 @@ module _ (p : Image) (script : Script) (limit natives : ℕ) (asked : Exploratio
         says = subst (λ t. Says t sent) (append_assoc (base_line asked plain) far.text line)
             (says_on (base_line asked plain ++ far.text) line mid sent far.says lives same says);
         counts = counts ∙ ap (λ t. counted t last.ending) far.counts ∙ sym (outcomes_more told last) ∙ ap outcomes_of (sym grown);
-        judged = judged ∙ ap (λ n. n + unexpected_among asked.expected (last ∷ [])) far.judged ∙ sym (unexpected_more asked.expected told last)
+        judged = judged ∙ ap (λ n. n + cond (is_unexpected asked.expected last.ending last.cells) 1 0) far.judged ∙ sym (unexpected_more asked.expected told last)
             ∙ ap (unexpected_among asked.expected) (sym grown);
         many = omega (arith, tries, many);
         few = omega (arith, tries, few, most, judged);

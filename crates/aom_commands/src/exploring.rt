@@ -1,12 +1,13 @@
 //! Runs of an image which something befalls, each by its last line.
-ghost use Rattle.std.specs.Prelude.{ℕ, ◌≡◌, ◌≤◌, ◌<◌, ◌+◌, ◌-◌, ◌^◌, ◌⊎◌, All, List, [], ◌∷◌, IfOk, IfErr, IfSome, Ok, false, length, true};
+ghost use Rattle.std.specs.Prelude.{ℕ, ◌≡◌, ◌≤◌, ◌<◌, ◌+◌, ◌-◌, ◌^◌, ◌⊎◌, All, List, [], ◌∷◌, ◌++◌, IfOk, IfErr, IfSome, Ok, Err, codes, cond, false, length, take, true};
 ghost use Rattle.aom_natives.specs.Slots.{AllAgree};
 ghost use Rattle.aom_run.specs.Calls.{natives_of};
 ghost use Rattle.aom_run.specs.Outcomes.{outcome_of};
 ghost use Rattle.aom_transcript.specs.Sinks.{after};
+ghost use Rattle.aom_transcript.specs.Text.{ended};
 ghost use Rattle.aom_script.specs.Script.{IsTimely, denoted};
 ghost use Rattle.aom_fault_injection.specs.Injections.{CanInject, injected};
-ghost use Rattle.aom_fault_injection.specs.Expected.{exploration_of};
+ghost use Rattle.aom_fault_injection.specs.Expected.{exploration_of, is_unexpected};
 ghost use Rattle.aom_fault_injection.specs.OutcomeTables.{counted, nothing_counted};
 ghost use Rattle.aom_fault_injection.specs.Planned.{AreTimes};
 ghost use Rattle.aom_commands.specs.Acceptable.{IsSerialized};
@@ -76,12 +77,11 @@ impl Told {
         requires many { self.old.outcome_counts.tries < 2 ^ 64 - 1 }
         requires few { self.old.unexpected ≤ self.old.outcome_counts.tries }
         ensures counts { self.new.outcome_counts ≡ counted self.old.outcome_counts last.ending }
-        ensures unexpected { self.new.unexpected ≡ self.old.unexpected + unexpected_among expected.now (last ∷ []) }
+        ensures unexpected { self.new.unexpected ≡ self.old.unexpected + cond (is_unexpected expected.now last.ending last.cells) 1 0 }
     {
         self.outcome_counts.count(last.ending);
-        if is_unexpected(expected, last.ending, last.cells) {
-            self.unexpected += 1;
-        }
+        let is_unexpected = is_unexpected(expected, last.ending, last.cells);
+        self.unexpected = add_one_if(self.unexpected, is_unexpected);
     }
 
     /// How many runs did not end as expected, where ends are judged.
@@ -94,6 +94,14 @@ impl Told {
             None
         }
     }
+}
+
+/// One more, if that is so.
+fn add_one_if(count: usize, is_so: bool) -> usize
+    requires { count < 2 ^ 64 - 1 }
+    ensures { result ≡ count + cond is_so 1 0 }
+{
+    if is_so { count + 1 } else { count }
 }
 
 /// How a run ended, unless memory was wanting for what is kept of it.
@@ -255,13 +263,48 @@ fn line_of(
 {
     let mut page = Page::new();
     page.add_end(last.ending, last.cells);
-    let end = page.as_bytes();
+    let end = without_feed(page.as_bytes());
+    let mark = mark_of(expected, last.ending, last.cells);
+    join_line(alloc, words, end, mark)
+}
+
+/// A line without its line feed.
+fn without_feed(line: &[u8]) -> &[u8]
+    requires { 1 ≤ length line.now }
+    ensures { result.now ≡ take (length line.now - 1) line.now }
+{
+    &line[..line.len() - 1]
+}
+
+/// The line of these parts.
+fn join_line(alloc: Global, words: &[u8], end: &[u8], mark: &[u8]) -> Result<Vec<u8>, AllocError>
+    ensures { IfOk result (λ line. line.items ≡ ended (words.now ++ codes " " ++ end.now ++ mark.now)) }
+{
     let mut line = Vec::from_slice(alloc, words)?;
     line.extend_from_slice(b" ")?;
-    line.extend_from_slice(&end[..end.len() - 1])?;
-    line.extend_from_slice(mark_of(expected, last.ending, last.cells))?;
-    line.push(b'\n')?;
+    line.extend_from_slice(end)?;
+    line.extend_from_slice(mark)?;
+    line.extend_from_slice(b"\n")?;
     Ok(line)
+}
+
+/// Tells how the run as it is ended, and counts it.
+fn tell_base<W: Sink>(
+    alloc: Global,
+    expected: &[ExpectedEnding],
+    plain: RunEnd,
+    out: &mut W,
+) -> Result<Told, AllocError>
+    ensures says { IfOk result (λ _. Says (run_line expected.now (codes "as it is") plain) (over W.out W.failed out.old out.new)) }
+    ensures counts { IfOk result (λ told. told.outcome_counts ≡ outcomes_of (plain ∷ [])) }
+    ensures unexpected { IfOk result (λ told. told.unexpected ≡ unexpected_among expected.now (plain ∷ [])) }
+    ensures err { IfErr result (λ _. (W.out out.new ≡ W.out out.old) × (W.failed out.new ≡ W.failed out.old)) }
+{
+    let line = line_of(alloc, b"as it is", plain, expected)?;
+    write_text(out, line.as_slice());
+    let mut told = Told::new();
+    told.count(plain, expected);
+    Ok(told)
 }
 
 /// Tells how the run as it is ended, where that is asked, and begins to count.
@@ -276,14 +319,12 @@ fn begin<W: Sink>(
     ensures unexpected { IfOk result (λ told. told.unexpected ≡ unexpected_among options.entry.expected.now (told_runs (exploration_of options.entry) plain [])) }
     ensures err { IfErr result (λ _. (W.out out.new ≡ W.out out.old) × (W.failed out.new ≡ W.failed out.old)) }
 {
-    let mut told = Told::new();
-    if !options.base {
-        return Ok(told);
+    let base = options.base;
+    if base {
+        tell_base(alloc, options.expected, plain, out)
+    } else {
+        Ok(Told::new())
     }
-    let line = line_of(alloc, b"as it is", plain, options.expected)?;
-    write_text(out, line.as_slice());
-    told.count(plain, options.expected);
-    Ok(told)
 }
 
 /// Runs the image with what befalls it, writes how that ended, and answers it.
@@ -335,12 +376,7 @@ fn try_all<W: Sink>(
 }
 
 /// Writes the closing lines, where they are asked for, unless the sink has failed.
-fn close<W: Sink>(
-    options: ExploreOptions<'_>,
-    told: &Told,
-    left: Option<Injection>,
-    out: &mut W,
-)
+fn close<W: Sink>(options: ExploreOptions<'_>, told: &Told, left: Option<Injection>, out: &mut W)
     ensures says { W.failed out.old ≡ false → Says (closing (exploration_of options.entry) left told.now.outcome_counts told.now.unexpected) (over W.out W.failed out.old out.new) }
     ensures stays { W.failed out.old ≡ true → (W.out out.new ≡ W.out out.old) × (W.failed out.new ≡ true) }
 {
@@ -456,10 +492,18 @@ fn explore_script<W: Sink>(
 {
     trial.accepted.facts();
     runs_well(trial.accepted);
-    let unexpected = match explore(alloc, trial, options, out) {
-        Ok(unexpected) => unexpected,
-        Err(fault) => return Err(fault),
-    };
+    match explore(alloc, trial, options, out) {
+        Ok(unexpected) => status_of_runs(unexpected, out),
+        Err(fault) => Err(fault),
+    }
+}
+
+/// The status where so many runs did not end as expected, unless the sink has failed.
+fn status_of_runs<W: Sink>(unexpected: usize, out: &W) -> Result<ExitStatus, Fault>
+    ensures failed { W.failed out.now ≡ true → result ≡ Err Fault.Write }
+    ensures none { W.failed out.now ≡ false → unexpected ≡ 0 → result ≡ Ok ExitStatus.Done }
+    ensures some { W.failed out.now ≡ false → 0 < unexpected → result ≡ Ok ExitStatus.Unfinished }
+{
     if out.has_failed() {
         return Err(Fault::Write);
     }

@@ -146,9 +146,7 @@ pub fn explore<W: Sink, E: Sink>(
     ensures { Answers Plain program.entry [] (W.out out.new ≡ W.out out.old) (λ image text. ExploreAnswers image script.now limit (length kinds.now) tries (over W.out W.failed out.old out.new)) (over E.out E.failed errors.old errors.new) result }
 {
     let options = ExploreOptions::of_tries(tries);
-    explore_with(
-        alloc, program, script, limit, kinds, options, out, errors,
-    )
+    explore_with(alloc, program, script, limit, kinds, options, out, errors)
 }
 
 /// Explores as `explore` does, tells the run as it is too where that is asked, and judges how the runs that are told ended where some ends are expected.

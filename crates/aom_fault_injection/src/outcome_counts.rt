@@ -1,5 +1,6 @@
 //! How runs ended.
-ghost use Rattle.std.specs.Prelude.{◌≡◌, ◌+◌, ◌<◌, ◌≤◌, ◌-◌, ◌^◌, ◌++◌, length};
+ghost use Rattle.std.specs.Prelude.{◌≡◌, ◌+◌, ◌<◌, ◌≤◌, ◌-◌, ◌^◌, ◌++◌, decimal, length};
+ghost use Rattle.aom_transcript.specs.Text.{ended};
 ghost use Rattle.aom_fault_injection.specs.OutcomeTables.{closing_text, counted, nothing_counted, summary_text, unexpected_text};
 
 use crate::Injection;
@@ -100,7 +101,15 @@ fn add_unexpected(unexpected: Option<usize>, text: &mut Closing)
     ensures { text.new ≡ text.old ++ unexpected_text unexpected }
 {
     if let Some(count) = unexpected {
-        text.add_count(b"unexpected ", count);
-        text.add(b"\n");
+        add_line(b"unexpected ", count, text);
     }
+}
+
+/// Adds words and a number, and ends the line.
+fn add_line(words: &[u8], count: usize, text: &mut Closing)
+    requires { length text.old + length words.now + 21 ≤ 256 }
+    ensures { text.new ≡ text.old ++ ended (words.now ++ decimal count) }
+{
+    text.add_count(words, count);
+    text.add(b"\n");
 }
