@@ -1,1 +1,4 @@
+pub mod Changes
+pub mod Documents
 pub mod Lists
+pub mod Outline
