@@ -1,4 +1,5 @@
-pub mod Changes
-pub mod Documents
 pub mod Lists
-pub mod Outline
+pub mod MessageTexts
+pub mod Nesting
+pub mod OpenDocuments
+pub mod WholeTexts

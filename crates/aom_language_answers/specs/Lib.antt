@@ -1,7 +1,7 @@
 pub mod Diagnostics
-pub mod Documents
 pub mod Hovers
 pub mod Messages
+pub mod OpenDocuments
 pub mod Outline
 pub mod Parameters
 pub mod Places

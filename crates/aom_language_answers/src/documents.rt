@@ -1,7 +1,7 @@
 //! The documents that are open.
 ghost use Rattle.std.specs.Prelude.{◌≡◌, ◌<◌, ◌||◌, [], IfOk, IfSome, None, OnErr, is_some, length, nat_lt, option_map, string_bytes};
 ghost use Rattle.std.specs.List.{position};
-ghost use Rattle.aom_language_answers.specs.Documents.{Updates, UpdatesIf, is_named, text_of};
+ghost use Rattle.aom_language_answers.specs.OpenDocuments.{Updates, UpdatesIf, is_named, text_of};
 
 use std::alloc::{AllocError, Global};
 use std::marker::Model;
@@ -18,7 +18,7 @@ struct Document {
 
 impl Model for Document {
     ghost use Rattle.std.specs.Prelude.{string_bytes};
-    ghost use Rattle.aom_language_answers.specs.Documents.{NamedText};
+    ghost use Rattle.aom_language_answers.specs.OpenDocuments.{NamedText};
 
     ghost Value = { NamedText };
 
@@ -62,7 +62,7 @@ pub struct Documents {
 
 impl Model for Documents {
     ghost use Rattle.std.specs.Prelude.{◌≤◌, List, length};
-    ghost use Rattle.aom_language_answers.specs.Documents.{HaveOwnNames, NamedText};
+    ghost use Rattle.aom_language_answers.specs.OpenDocuments.{HaveOwnNames, NamedText};
 
     ghost Value = { List NamedText };
 
@@ -121,12 +121,14 @@ impl Documents {
         ensures documents { IfOk result (λ is_open. UpdatesIf is_open self.old self.new uri.now text.now) }
         ensures memory { OnErr result (self.new ≡ self.old) }
     {
-        let Some(at) = self.place(uri) else {
-            return Ok(false);
-        };
-        let text = String::from_str(alloc, text)?;
-        self.documents[at].set_text(text);
-        Ok(true)
+        match self.place(uri) {
+            Some(at) => {
+                let text = String::from_str(alloc, text)?;
+                self.documents[at].set_text(text);
+                Ok(true)
+            }
+            None => Ok(false),
+        }
     }
 
     /// Closes a document. Whether it was open.
@@ -134,10 +136,12 @@ impl Documents {
         ensures answer { result ≡ is_some (text_of uri.now self.old) }
         ensures documents { Updates self.old self.new uri.now None }
     {
-        let Some(at) = self.place(uri) else {
-            return false;
-        };
-        drop(self.documents.remove(at));
-        true
+        match self.place(uri) {
+            Some(at) => {
+                drop(self.documents.remove(at));
+                true
+            }
+            None => false,
+        }
     }
 }

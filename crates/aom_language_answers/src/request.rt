@@ -1,11 +1,14 @@
 //! Messages as they come in.
-ghost use Rattle.std.specs.Prelude.{◌≡◌, IfOk, codes, is_some, option_and_then, option_map, string_bytes};
-ghost use Rattle.serde_json.specs.Find.{as_str, get};
+ghost use Rattle.std.specs.Prelude.{◌≡◌, IfOk, ⊥, option_map, string_bytes};
+ghost use Rattle.serde_json.specs.Data.{null};
+ghost use Rattle.serde_json.specs.Errors.{IsMemory};
+ghost use Rattle.serde_json.specs.Find.{get};
 ghost use Rattle.serde_json.specs.View.{view};
+ghost use Rattle.aom_language_answers.specs.declared.replies.ReplyFault.TheVariants.{Parse};
 ghost use Rattle.aom_language_answers.specs.Messages.{No_message, called, is_id, is_version, message_by, message_said, message_view, method_said, not_called, says_outcome};
 
 use crate::replies::ReplyFault;
-use serde_json::Value;
+use serde_json::{Error, Value};
 use std::alloc::{AllocError, Global};
 
 /// What a message is.
@@ -35,9 +38,18 @@ pub fn read_message(alloc: Global, message: &[u8]) -> Result<Incoming, AllocErro
 {
     match Value::from_slice(alloc, message) {
         Ok(value) => message_of(alloc, &value),
-        Err(error) if error.is_memory() => Err(AllocError),
-        Err(_) => Ok(refused(Value::Null, ReplyFault::Parse)),
+        Err(error) => unread(&error),
     }
+}
+
+/// Bytes that are not read are no JSON, unless memory is wanted.
+fn unread(error: &Error) -> Result<Incoming, AllocError>
+    ensures { IfOk result (λ incoming. (IsMemory error.now → ⊥) × (message_view incoming ≡ No_message null Parse)) }
+{
+    if error.is_memory() {
+        return Err(AllocError);
+    }
+    Ok(refused(Value::Null, ReplyFault::Parse))
 }
 
 /// What a value says.
@@ -78,7 +90,7 @@ fn method_of(alloc: Global, value: &Value) -> Result<Option<String>, AllocError>
 
 /// Whether a message says the protocol's own version.
 fn is_version(version: Option<&str>) -> bool
-    ensures { result ≡ is_version (option_map (λ version. version.now) version) }
+    ensures { result ≡ is_version (option_map (λ text. text.now) version.entry) }
 {
     match version {
         Some(version) => version == "2.0",

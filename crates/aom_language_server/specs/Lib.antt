@@ -1,4 +1,4 @@
-pub mod Answers
+pub mod Exchanges
 pub mod Queries
 pub mod Sessions
 pub mod Stages

@@ -4,7 +4,7 @@ use Rattle.std.specs.Str.{bytes_eq}
 use Rattle.serde_json.specs.Data.{Data, array, null, no_items}
 use Rattle.serde_json.specs.Find.{as_str, get, pointer}
 use Rattle.aom_source_tokens.specs.Tokens.{Source, tokens_of}
-use Rattle.aom_language_answers.specs.Documents.{NamedText, text_of}
+use Rattle.aom_language_answers.specs.OpenDocuments.{NamedText, text_of}
 use Rattle.aom_language_answers.specs.Hovers.{hover_data}
 use Rattle.aom_language_answers.specs.Outline.{outline_data}
 use Rattle.aom_language_answers.specs.Parameters.{number_said, position_said}

@@ -1,7 +1,7 @@
 //! What is asked of a document, and what is found.
 ghost use Rattle.std.specs.Prelude.{◌≡◌, ◌^◌, IfOk, option_map};
 ghost use Rattle.serde_json.specs.View.{view};
-ghost use Rattle.aom_language_answers.specs.Documents.{text_of};
+ghost use Rattle.aom_language_answers.specs.OpenDocuments.{text_of};
 ghost use Rattle.aom_language_server.specs.Queries.{IsFound, IsFoundAt, IsFoundIn, IsRenaming, new_name_said, position_asked, query_of, unread};
 ghost use Rattle.aom_language_server.specs.Telling.{up_to};
 

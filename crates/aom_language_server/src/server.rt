@@ -7,8 +7,8 @@ ghost use Rattle.aom_language_answers.specs.Messages.{message_said, message_view
 ghost use Rattle.aom_language_answers.specs.Replies.{fault_data};
 ghost use Rattle.aom_language_answers.specs.declared.replies.ReplyFault.TheVariants as faults;
 ghost use Rattle.aom_language_answers.specs.Parameters.{changed_text};
-ghost use Rattle.aom_language_server.specs.Answers.{AreSent, IsAnswered, IsChanged, IsClosed, IsNotified, IsOpened, IsOutcome, IsReply, IsRunningReply, IsUpdate, IsUpdateOf};
-ghost use Rattle.aom_language_server.specs.Answers.{capabilities_data, first_reply, outcome_of, published_data, session_of};
+ghost use Rattle.aom_language_server.specs.Exchanges.{AreSent, IsAnswered, IsChanged, IsClosed, IsNotified, IsOpened, IsOutcome, IsReply, IsRunningReply, IsUpdate, IsUpdateOf};
+ghost use Rattle.aom_language_server.specs.Exchanges.{capabilities_data, first_reply, outcome_of, published_data, session_of};
 ghost use Rattle.aom_language_server.specs.Queries.{opened_text, uri_said};
 ghost use Rattle.aom_language_server.specs.Stages.{is_ending, stage_behind};
 ghost use Rattle.aom_language_server.specs.declared.server.Stage.TheVariants.{Fresh, Running};

@@ -2,7 +2,7 @@
 use Rattle.std.proofs.Common.{◌≡◌, ◌≤◌, ◌-◌, None, get_or, length, map, option_map, take, true}
 use Rattle.std.specs.List.{list_all}
 use Rattle.std.specs.Option.{is_some}
-use Rattle.aom_language_answers.proofs.Changes.{text_in}
+use Rattle.aom_language_answers.proofs.WholeTexts.{text_in}
 use Rattle.aom_language_answers.proofs.changes.last_text.Given as goal
 
 abbrev pub invariant-loop-change : goal.invariant-loop-change

@@ -4,7 +4,7 @@ use Rattle.std.specs.Bool.{MatchBool}
 use Rattle.std.specs.Str.{bytes_eq}
 use Rattle.serde_json.specs.Data.{Data, array, boolean, no_items, null, number, object, string, unsigned, member, no_members}
 use Rattle.serde_json.specs.View.{view}
-use Rattle.aom_language_answers.specs.Documents.{NamedText, Updates, UpdatesIf, text_of}
+use Rattle.aom_language_answers.specs.OpenDocuments.{NamedText, Updates, UpdatesIf, text_of}
 use Rattle.aom_language_answers.specs.Messages.{Message, A_request, A_notification, A_response, No_message}
 use Rattle.aom_language_answers.specs.Parameters.{changed_text}
 use Rattle.aom_language_answers.specs.Replies.{fault_data, notice_data, reply_data}

@@ -7,8 +7,8 @@ use Rattle.std.proofs.lemmas.List.Edits.{length-remove}
 use Rattle.std.proofs.lemmas.List.Quantifiers.{position-Some}
 use Rattle.std.proofs.lemmas.Slice.Eq.{bytes_eq-Decides}
 use Rattle.std.specs.List.{position, position_or_len, remove}
-use Rattle.std.specs.Option.{option_to_list}
-use Rattle.aom_language_answers.specs.Documents.{HaveOwnNames, NamedText, Updates, is_named, text_of}
+use Rattle.std.specs.Option.{is_some, option_to_list}
+use Rattle.aom_language_answers.specs.OpenDocuments.{HaveOwnNames, NamedText, Updates, is_named, text_of}
 
 -- ---- one document
 
@@ -179,3 +179,28 @@ none_found uri (x ∷ docs) past =
 
 pub unplaced : (uri : List ℕ) (docs : List NamedText) → None ≡ position (is_named uri) docs → text_of uri docs ≡ None
 unplaced uri docs none = none_found uri docs (ltb-false _ _ (unplaced_by (nat_lt (position_or_len (is_named uri) docs) (length docs)) (position_or_len (is_named uri) docs) (sym none)))
+
+-- ---- what the documents' own calls come to
+
+-- one that has another text has the name that it had
+pub retold_name : (uri : List ℕ) (docs : List NamedText) (i : ℕ) (d v : NamedText) (said : List ℕ) → IsPlace uri docs i d → d ≡ get_or docs i d → v ≡ record d { text = said }
+    → v.uri ≡ uri
+retold_name uri docs i d v said p at is = ap (λ (e : NamedText). e.uri) is ∙ ap (λ (e : NamedText). e.uri) at ∙ named_so uri (get_or docs i d) p.named
+
+pub retold_updates : (uri text : List ℕ) (docs : List NamedText) (i : ℕ) (d v : NamedText) (said : List ℕ) → IsPlace uri docs i d → d ≡ get_or docs i d
+    → v ≡ record d { text = said } → said ≡ text → Updates docs (set docs i v) uri (Some text)
+retold_updates uri text docs i d v said p at is says =
+    subst (λ (t : List ℕ). Updates docs (set docs i v) uri (Some t)) (ap (λ (e : NamedText). e.text) is ∙ says)
+    (set_updates uri docs i d v p (retold_name uri docs i d v said p at is))
+
+-- where none has the name, taking it away changes nothing
+pub lacking_updates : (uri : List ℕ) (docs : List NamedText) → text_of uri docs ≡ None → Updates docs docs uri None
+lacking_updates uri docs none = record {
+  here = none;
+  others = λ other differs. refl;
+  count = ap (λ (found : Option (List ℕ)). length docs + length (option_to_list found)) none;
+}
+
+pub is_none : (found : Option (List ℕ)) → is_some found ≡ false → found ≡ None
+is_none None is = refl
+is_none (Some text) is = absurd cc

@@ -47,7 +47,7 @@ by_all b text is = ap (λ (all : Bool). cond all text None) (sym is)
 pub whole_last : (changes : List Value) (i : ℕ) (text : Option (List ℕ)) → length changes ≤ i → i ≤ length changes → list_all is_some (map text_in (take i changes)) ≡ true
     → text ≡ get_or (map text_in (take i changes)) (i - 1) None → text ≡ last_text (whole_texts (items_view changes))
 whole_last changes i text over within all last =
-    let texts : map text_in (take i changes) ≡ whole_texts (items_view changes) = ap (map text_in) (take_all changes i over) ∙ sym (texts_of_values changes) in
+    let texts : map text_in (take i changes) ≡ whole_texts (items_view changes) = ap (map text_in) (take_all i changes over) ∙ sym (texts_of_values changes) in
     let place : i - 1 ≡ length (map text_in changes) - 1 = omega (arith, length-map changes text_in) in
     last
     ∙ ap (λ (ts : List (Option (List ℕ))). get_or ts (i - 1) None) texts
