@@ -1,5 +1,5 @@
 -- The declarations of a source, as an outline.
-use Rattle.std.specs.Prelude.{ℕ, ◌==◌, ◌&&◌, Bool, false, not, if◌then◌else◌, List, [], ◌∷◌, codes, length, map, Option, Some, None}
+use Rattle.std.specs.Prelude.{ℕ, ◌==◌, ◌&&◌, Bool, not, if◌then◌else◌, List, [], ◌∷◌, codes, length, map, Option, Some}
 use Rattle.aom_source_names.specs.Declarations.{declared_as}
 use Rattle.aom_source_names.specs.Meanings.{declarations_in, is_number}
 use Rattle.aom_source_names.specs.Spots.{spot_at}

@@ -1,5 +1,5 @@
 //! Messages as they come in.
-ghost use Rattle.std.specs.Prelude.{◌≡◌, IfOk, ⊥, option_map, string_bytes};
+ghost use Rattle.std.specs.Prelude.{◌≡◌, IfOk, option_map, string_bytes};
 ghost use Rattle.serde_json.specs.Data.{null};
 ghost use Rattle.serde_json.specs.Errors.{IsMemory};
 ghost use Rattle.serde_json.specs.Find.{get};

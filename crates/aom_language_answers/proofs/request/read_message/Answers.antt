@@ -1,5 +1,5 @@
 -- What a value says is what the bytes say that it was read from, and other bytes are no message.
-use Rattle.std.proofs.Common.{◌≡◌, ◌∙◌, Some, ap, sym, ⊥}
+use Rattle.std.proofs.Common.{◌≡◌, ◌∙◌, Some, ap, sym}
 use Rattle.std.proofs.lemmas.Result.{IfOk-weaker}
 use Rattle.serde_json.specs.Data.{null}
 use Rattle.serde_json.specs.Errors.{IsMemory}

@@ -1,7 +1,7 @@
 -- The document at the place of the name is taken away.
 use Rattle.std.proofs.Common.{◌≡◌, ◌∙◌, ◌≤◌, List, None, Option, Some, ap, arith, length, subst, sym, ℕ}
 use Rattle.std.proofs.lemmas.List.Edits.{length-remove}
-use Rattle.std.specs.List.{position, remove}
+use Rattle.std.specs.List.{position}
 use Rattle.std.specs.Option.{is_some}
 use Rattle.aom_language_answers.specs.OpenDocuments.{HaveOwnNames, NamedText, Updates, is_named}
 use Rattle.aom_language_answers.proofs.OpenDocuments.{lacking_updates, placed, remove_distinct, remove_updates, text_at, unplaced}
@@ -27,14 +27,14 @@ invariant_of-self c =
     (subst HaveOwnNames (sym c.remove.ensures.items) own, omega (arith, ap (λ (xs : List NamedText). length xs) c.remove.ensures.items, length-remove docs c.in-Some.at place.within))
 
 -- src/documents.rt
-pub returns-clause-answer : goal.returns-clause-answer
-returns-clause-answer c =
+pub returns-in-Some-clause-answer : goal.returns-in-Some-clause-answer
+returns-in-Some-clause-answer c =
     let place = placed c.args.uri.now c.args.self.now c.in-Some.at c.remove.result c.in-Some.ensures.value in
     sym (ap (λ (o : Option (List ℕ)). is_some o) (text_at c.args.uri.now c.args.self.now c.in-Some.at c.remove.result place))
 
 -- src/documents.rt
-pub returns-clause-documents : goal.returns-clause-documents
-returns-clause-documents c =
+pub returns-in-Some-clause-documents : goal.returns-in-Some-clause-documents
+returns-in-Some-clause-documents c =
     let docs = c.self.inside.documents.items in
     let found : Some c.in-Some.at ≡ position (is_named c.args.uri.now) docs =
     c.in-Some.ensures.value ∙ ap (λ (xs : List NamedText). position (is_named c.args.uri.now) xs) (sym c.self.view_is) in
