@@ -1,5 +1,5 @@
 -- What is sent for a message.
-use Rattle.std.specs.Prelude.{ℕ, ◌≡◌, ◌||◌, Bool, true, false, nat_lt, if◌then◌else◌, List, codes, length, Option, Some, None, is_some, option_map, ⊥}
+use Rattle.std.specs.Prelude.{ℕ, ◌≡◌, ◌||◌, Bool, true, false, nat_lt, if◌then◌else◌, List, codes, length, Option, Some, None, is_some, option_map}
 use Rattle.std.specs.Bool.{MatchBool}
 use Rattle.std.specs.Str.{bytes_eq}
 use Rattle.serde_json.specs.Data.{Data, array, boolean, no_items, null, number, object, string, unsigned, member, no_members}

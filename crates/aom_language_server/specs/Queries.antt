@@ -1,11 +1,11 @@
 -- What is asked of a document, and what is found.
-use Rattle.std.specs.Prelude.{ℕ, ◌≡◌, ◌⊎◌, ◌^◌, if◌then◌else◌, IfSome, List, codes, length, min, take, Option, Some, None, Ok, option_and_then, unwrap_or, ⊥}
+use Rattle.std.specs.Prelude.{ℕ, ◌≡◌, ◌⊎◌, ◌^◌, if◌then◌else◌, IfSome, List, codes, Option, Some, None, Ok, Err, option_and_then, unwrap_or}
 use Rattle.std.specs.Str.{bytes_eq}
 use Rattle.serde_json.specs.Data.{Data, array, null, no_items}
 use Rattle.serde_json.specs.Find.{as_str, get, pointer}
 use Rattle.aom_source_tokens.specs.Tokens.{Source, tokens_of}
+use Rattle.aom_source_tokens.specs.declared.fault.TokenFault.{TokenFault}
 use Rattle.aom_language_answers.specs.OpenDocuments.{NamedText, text_of}
-use Rattle.aom_language_answers.specs.Hovers.{hover_data}
 use Rattle.aom_language_answers.specs.Outline.{outline_data}
 use Rattle.aom_language_answers.specs.Parameters.{number_said, position_said}
 use Rattle.aom_language_answers.specs.Places.{definition_data, first_name_at}
@@ -68,16 +68,21 @@ pub record IsSourceOf (text : List ℕ) (s : Source) : Type 0 where
   pub bytes : s.bytes ≡ text
   pub tokens : tokens_of text ≡ Ok (s.tokens, s.end)
 
--- what is found in a text whose tokens are not read: it has none, or there is no memory for them
+-- what is found in a text that has no tokens
 abbrev pub unread : Query → Option Data
 unread q.Symbols = Some (array no_items)
 unread q.Rename = None
 unread query = Some null
 
+-- a text in which a fault comes first
+pub record HasNoTokens (text : List ℕ) : Type 0 where
+  pub fault : TokenFault
+  pub refused : tokens_of text ≡ Err fault
+
 abbrev pub IsFoundIn : Query → (params : Data) → (uri text : List ℕ) → Option Position → Option Data → Type 0
 IsFoundIn query params uri text None found = found ≡ None
 IsFoundIn query params uri text (Some wanted) found =
-    ((s : Source) × IsSourceOf text s × IsFoundAt query params uri s (up_to (2 ^ 20) text) wanted found) ⊎ (found ≡ unread query)
+    ((s : Source) × IsSourceOf text s × IsFoundAt query params uri s (up_to (2 ^ 20) text) wanted found) ⊎ (HasNoTokens text × (found ≡ unread query))
 
 abbrev pub IsFoundUnder : Query → (params : Data) → (uri text : Option (List ℕ)) → Option Data → Type 0
 IsFoundUnder query params (Some uri) (Some text) found = IsFoundIn query params uri text (position_asked query params) found

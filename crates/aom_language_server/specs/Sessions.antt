@@ -1,5 +1,5 @@
 -- What goes out in a session.
-use Rattle.std.specs.Prelude.{ℕ, ◌≡◌, Bool, if◌then◌else◌, List, ◌++◌, flat_map, Option, Some, None, option_map, take}
+use Rattle.std.specs.Prelude.{ℕ, ◌≡◌, Bool, if◌then◌else◌, List, ◌++◌, flat_map, Option, Some, option_map, take}
 use Rattle.aom_message_framing.specs.Frames.{frame_text}
 use Rattle.aom_language_server.specs.declared.serving.Ended.{Ended}
 use Rattle.aom_language_server.specs.declared.serving.Ended.TheVariants.{Early, Failed, InOrder}

@@ -1,7 +1,8 @@
 -- What compiling tells of a document.
-use Rattle.std.specs.Prelude.{ℕ, ◌≡◌, ◌^◌, All, List, length, map, min, take}
+use Rattle.std.specs.Prelude.{ℕ, ◌≡◌, ◌^◌, All, List, [], length, map, min, take}
 use Rattle.serde_json.specs.Data.{Data, array}
 use Rattle.serde_json.specs.View.{items_of}
+use Rattle.aom_source_commands.specs.Compiling.{IsTranslated}
 use Rattle.aom_source_commands.specs.declared.diagnosing.Diagnosis.{Diagnosis}
 use Rattle.aom_source_tokens.specs.Places.{IsPlaceIn}
 use Rattle.aom_source_tokens.specs.Tokens.{Source}
@@ -21,9 +22,10 @@ fault_data seen text d = diagnostic_data seen text d.place.at d.fault.now (text_
 abbrev pub faults_data : (text : List ℕ) → List Diagnosis → Data
 faults_data text faults = array (items_of (map (fault_data (up_to (2 ^ 20) text) text) faults))
 
--- faults of a text, each at a place in it
+-- faults of a text, each at a place in it; where there are none, it is translated
 abbrev pub AreFaults : (text : List ℕ) → Data → Type 0
-AreFaults text sent = (faults : List Diagnosis) × All (λ d. IsPlaceIn text d.place) faults × (sent ≡ faults_data (up_to (2 ^ 22) text) faults)
+AreFaults text sent =
+    (faults : List Diagnosis) × All (λ d. IsPlaceIn text d.place) faults × (faults ≡ [] → IsTranslated text) × (sent ≡ faults_data (up_to (2 ^ 22) text) faults)
 
 -- what is told of a name and of its line, with some notes of lines
 abbrev pub IsHover : Source → (text : List ℕ) → Position → Data → Type 0

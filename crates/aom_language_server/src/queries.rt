@@ -1,6 +1,7 @@
 //! What is asked of a document, and what is found.
-ghost use Rattle.std.specs.Prelude.{◌≡◌, ◌^◌, IfOk, option_map};
+ghost use Rattle.std.specs.Prelude.{◌≡◌, ◌≢◌, ◌^◌, IfOk, option_map};
 ghost use Rattle.serde_json.specs.View.{view};
+ghost use Rattle.aom_source_tokens.specs.declared.fault.TokenFaultKind.TheVariants.{OutOfMemory};
 ghost use Rattle.aom_language_answers.specs.OpenDocuments.{text_of};
 ghost use Rattle.aom_language_server.specs.Queries.{IsFound, IsFoundAt, IsFoundIn, IsRenaming, new_name_said, position_asked, query_of, unread};
 ghost use Rattle.aom_language_server.specs.Telling.{up_to};
@@ -10,7 +11,7 @@ use aom_language_answers::{
     Documents, Position, Ruler, definition, position_of, prepare, rename, symbols, uri_of,
 };
 use aom_source_names::Names;
-use aom_source_tokens::Tokens;
+use aom_source_tokens::{TokenFaultKind, Tokens};
 use serde_json::Value;
 use std::alloc::{AllocError, Global};
 
@@ -73,7 +74,7 @@ fn found_in(
     };
     match Tokens::of(alloc, text.as_bytes()) {
         Ok(tokens) => found_at(alloc, query, params, uri, &tokens, position),
-        Err(_) => Ok(unread(alloc, query)),
+        Err(fault) => unread(alloc, query, fault.kind),
     }
 }
 
@@ -91,15 +92,18 @@ fn position_asked(query: Query, params: &Value) -> Option<Position>
     }
 }
 
-/// What is found in a text that has no tokens.
-fn unread(alloc: Global, query: Query) -> Option<Value>
-    ensures { option_map view result ≡ unread query }
+/// What is found in a text that has no tokens. Want of memory says nothing of a text.
+fn unread(alloc: Global, query: Query, fault: TokenFaultKind) -> Result<Option<Value>, AllocError>
+    ensures { IfOk result (λ found. (fault ≢ OutOfMemory) × (option_map view found ≡ unread query)) }
 {
-    match query {
+    if let TokenFaultKind::OutOfMemory = fault {
+        return Err(AllocError);
+    }
+    Ok(match query {
         Query::Symbols => Some(Value::Array(Vec::new(alloc))),
         Query::Rename => None,
         _ => Some(Value::Null),
-    }
+    })
 }
 
 /// What is found in a text by its tokens.
