@@ -235,7 +235,7 @@ module _ (bytes text : List ℕ) (limit natives : ℕ) (p : Image) (script : Scr
   pub explored_otherwise : (unexpected : ℕ) → HasNatives p natives → Explored p script limit natives asked unexpected out → out.failed ≡ false →
       0 < unexpected → IsSilent errors → AcceptedExplores bytes text limit natives asked out errors statuses.Unfinished
   explored_otherwise unexpected enough all lives some silent =
-      (judged_so p script limit natives asked unexpected out all lives some, unexpected, some, explores_all unexpected enough all lives silent)
+      (judged_so p script limit natives asked unexpected out all lives some, (unexpected, some, explores_all unexpected enough all lives silent))
 
 -- what a call has come to whose runs were told, or whose output failed
 pub told_so : (bytes text : List ℕ) (limit natives : ℕ) (p : Image) (script : Script) → IsAcceptable p → AllRunWell p → IsSerialized bytes p →
@@ -243,11 +243,11 @@ pub told_so : (bytes text : List ℕ) (limit natives : ℕ) (p : Image) (script 
     Explored p script limit natives asked unexpected out → (out.failed ≡ true → found ≡ Err faults.Write) →
     (out.failed ≡ false → unexpected ≡ 0 → found ≡ Ok statuses.Done) → (out.failed ≡ false → 0 < unexpected → found ≡ Ok statuses.Unfinished) →
     Unreported (AcceptedExplores bytes text limit natives asked out) found
-told_so bytes text limit natives p script acceptable well serialized denotes asked out unexpected found enough all fails none some =
+told_so bytes text limit natives p script acceptable well serialized denotes asked out unexpected found enough all failing none some =
     go out.failed unexpected refl refl
   where
     go : (failed : Bool) (n : ℕ) → out.failed ≡ failed → unexpected ≡ n → Unreported (AcceptedExplores bytes text limit natives asked out) found
-    go true n is same = subst (Unreported (AcceptedExplores bytes text limit natives asked out)) (sym (fails is))
+    go true n is same = subst (Unreported (AcceptedExplores bytes text limit natives asked out)) (sym (failing is))
         (λ errors status reported. cut_off bytes text limit natives p script acceptable well serialized denotes asked out errors status unexpected enough all is reported)
     go false zero is same = subst (Unreported (AcceptedExplores bytes text limit natives asked out)) (sym (none is same))
         (λ errors silent. explored bytes text limit natives p script acceptable well serialized denotes asked out errors unexpected enough all is same silent)

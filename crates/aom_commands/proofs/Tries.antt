@@ -103,13 +103,13 @@ untold_base asked plain sent is same =
 
 pub unbased_counts : (asked : Exploration) (plain : RunEnd) (outcome_counts : OutcomeCounts) → asked.base ≡ false → outcome_counts ≡ nothing_counted →
     outcome_counts ≡ outcomes_of (told_runs asked plain [])
-unbased_counts asked plain outcome_counts is none =
-    subst (λ (b : Bool). outcome_counts ≡ outcomes_of (if b then plain ∷ [] else [])) (sym is) none
+unbased_counts asked plain outcome_counts is nothing =
+    subst (λ (b : Bool). outcome_counts ≡ outcomes_of (if b then plain ∷ [] else [])) (sym is) nothing
 
 pub unbased_judged : (asked : Exploration) (plain : RunEnd) (unexpected : ℕ) → asked.base ≡ false → unexpected ≡ 0 →
     unexpected ≡ unexpected_among asked.expected (told_runs asked plain [])
-unbased_judged asked plain unexpected is none =
-    subst (λ (b : Bool). unexpected ≡ unexpected_among asked.expected (if b then plain ∷ [] else [])) (sym is) none
+unbased_judged asked plain unexpected is nothing =
+    subst (λ (b : Bool). unexpected ≡ unexpected_among asked.expected (if b then plain ∷ [] else [])) (sym is) nothing
 
 -- where no end is expected all are
 none_unexpected : (lasts : List RunEnd) → unexpected_among [] lasts ≡ 0
@@ -118,7 +118,7 @@ none_unexpected (last ∷ lasts) = none_unexpected lasts
 
 -- one that is not is one of a run that is judged
 pub judges : (expected : List ExpectedEnding) (lasts : List RunEnd) → 0 < unexpected_among expected lasts → is_judged expected ≡ true
-judges [] lasts some = let none = none_unexpected lasts in absurd (omega (arith, some, none))
+judges [] lasts some = let nothing = none_unexpected lasts in absurd (omega (arith, some, nothing))
 judges (one ∷ others) lasts some = grind (arith, nat_tests)
 
 counts_one : (outcome_counts : OutcomeCounts) (ending : Ending) → (counted outcome_counts ending).tries ≡ outcome_counts.tries + 1
@@ -155,12 +155,12 @@ module _ (p : Image) (script : Script) (limit natives : ℕ) (asked : Exploratio
 
   tries_first : (b : Bool) → (outcomes_of (if b then plain ∷ [] else [])).tries ≤ 1
   tries_first true = subst (λ n. n ≤ 1) (sym one_told) (omega arith)
-  tries_first false = let none : 0 ≤ 1 = omega arith in none
+  tries_first false = let least : 0 ≤ 1 = omega arith in least
 
   few_first : (b : Bool) → unexpected_among asked.expected (if b then plain ∷ [] else []) ≤ (outcomes_of (if b then plain ∷ [] else [])).tries
   few_first true = subst (λ n. unexpected_among asked.expected (plain ∷ []) ≤ n) (sym one_told)
       (count_by-le-length (λ (l : RunEnd). is_unexpected asked.expected l.ending l.cells) (plain ∷ []))
-  few_first false = let none : 0 ≤ 0 = omega arith in none
+  few_first false = let least : 0 ≤ 0 = omega arith in least
 
   pub start : (outcome_counts : OutcomeCounts) (unexpected : ℕ) (sent : Sent) → outcome_counts ≡ outcomes_of (told_runs asked plain []) →
       unexpected ≡ unexpected_among asked.expected (told_runs asked plain []) → Says (base_line asked plain) sent → SoFar 0 outcome_counts unexpected sent
@@ -214,6 +214,17 @@ module _ (p : Image) (script : Script) (limit natives : ℕ) (asked : Exploratio
   abbrev pub begun : (place : ℕ) (outcome_counts : OutcomeCounts) (unexpected : ℕ) (sent : Sent) → SoFar place outcome_counts unexpected sent →
       Begun p script limit natives asked plain injections sent
   begun place outcome_counts unexpected sent far = record { count = place; lasts = far.lasts; text = far.text; tried = far.tried; says = far.says }
+
+  -- nothing more went out
+  pub begun_still : (place : ℕ) (outcome_counts : OutcomeCounts) (unexpected : ℕ) (mid sent : Sent) → SoFar place outcome_counts unexpected mid →
+      mid.before ≡ sent.before → sent.now ≡ mid.now → sent.failed ≡ mid.failed → Begun p script limit natives asked plain injections sent
+  begun_still place outcome_counts unexpected mid sent far same now failed = record {
+    count = place;
+    lasts = far.lasts;
+    text = far.text;
+    tried = far.tried;
+    says = says_still (base_line asked plain ++ far.text) mid sent far.says same (sym now) (sym failed);
+  }
 
   pub all_tried : (place : ℕ) (outcome_counts : OutcomeCounts) (unexpected : ℕ) (sent : Sent) → SoFar place outcome_counts unexpected sent →
       (sent.failed ≡ false → length injections ≤ place) → TriesAll p script limit natives asked plain injections outcome_counts unexpected sent

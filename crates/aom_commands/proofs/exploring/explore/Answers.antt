@@ -19,8 +19,8 @@ returns-in_err-told-clause-err g c =
     let p = err_from_is_err_and c.from_residual-in_err-told.result c.from_residual-in_err-told.ensures.1 in
     let all = c.in_err-told.ensures.err in
     let plans = c.in_ok-planned.ensures.ok in
-    rw p.1 (stopped_there _ _ _ _ (exploration_of c.args.options) _ _ c.as_slice.result.now _ _ p.0 _ plans c.as_slice.ensures.value p.2 all.0 all.1)
+    rw p.1 (stopped_there _ _ _ _ (exploration_of c.args.options) _ _ c.as_slice-injections.result.now _ _ p.0 _ plans c.as_slice-injections.ensures.value p.2 all.0 all.1)
 
 pub returns-clause-ok : goal.returns-clause-ok
 returns-clause-ok g c = explored_so _ c.args.trial.now.script.now c.args.trial.now.limit _ (exploration_of c.args.options) _ _ _ _ _ _ _
-    c.in_ok-planned.ensures.ok (rw c.as_slice.ensures.value at c.in_ok-told.ensures.ok) refl c.close.ensures.says c.close.ensures.stays
+    c.in_ok-planned.ensures.ok (rw c.as_slice-injections.ensures.value at c.in_ok-told.ensures.ok) refl c.close.ensures.says c.close.ensures.stays

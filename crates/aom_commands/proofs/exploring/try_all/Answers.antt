@@ -1,8 +1,9 @@
 -- Each is tried in turn. Where memory is wanting what went out stays.
-use Rattle.std.proofs.Common.{◌∙◌, arith, length, refl, rules, sym}
+use Rattle.std.proofs.Common.{◌∙◌, arith, inr, length, refl, rules, sym}
+use Rattle.std.proofs.lemmas.Result.{err_from_is_err_and}
 use Rattle.aom_fault_injection.specs.Expected.{exploration_of}
 use Rattle.aom_commands.specs.Headline.{Sent}
-use Rattle.aom_commands.proofs.Tries.{all_tried, one_more, start}
+use Rattle.aom_commands.proofs.Tries.{all_tried, begun_still, one_more, start}
 use Rattle.aom_commands.proofs.exploring.try_all.Goals.{then-loop-place-test+else-not-has_failed, else-loop-place-test}
 use Rattle.aom_commands.proofs.exploring.try_all.Goals as goal
 
@@ -37,6 +38,20 @@ loop-place-preserved g c =
           c.count.ensures.counts c.count.ensures.unexpected;
       within = omega (arith, c.loop-place-test.true);
     }
+
+pub returns-in_err-last-clause-err : goal.returns-in_err-last-clause-err
+returns-in_err-last-clause-err g c =
+    let p = err_from_is_err_and c.from_residual-in_err-last.result c.from_residual-in_err-last.ensures.1 in
+    let fails = c.in_err-last.ensures.err in
+    let trial = c.args.trial.now in
+    let out = g.W.Sink.out c.args.out.now in
+    let mid : Sent = record { before = out; now = g.W.Sink.out c.loop-place.out; failed = g.W.Sink.failed c.loop-place.out } in
+    let sent : Sent = record { before = out; now = g.W.Sink.out c.try_one.new.out; failed = g.W.Sink.failed c.try_one.new.out } in
+    rw p.1 (
+      p.2 ∙ fails.0,
+      inr (begun_still trial.accepted.now trial.script.now trial.limit (length trial.kinds.now) (exploration_of c.args.options) c.args.plain
+          c.args.injections.now c.loop-place.place _ _ mid sent c.loop-place.invariant.far refl fails.1 fails.2),
+    )
 
 pub returns-clause-ok : goal.returns-clause-ok
 returns-clause-ok g c =

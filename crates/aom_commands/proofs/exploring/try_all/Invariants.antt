@@ -6,8 +6,8 @@ use Rattle.aom_commands.proofs.exploring.try_all.Given as goal
 
 abbrev pub invariant-loop-place : goal.invariant-loop-place
 invariant-loop-place g l = record {
-  far : SoFar l.trial.accepted.now l.trial.script.now l.trial.limit (length l.trial.kinds.now) (exploration_of l.options) l.plain l.injections l.place
-      l.told.outcome_counts l.told.unexpected (record { before = g.W.Sink.out l.initial.out; now = g.W.Sink.out l.out; failed = g.W.Sink.failed l.out });
+  far : SoFar l.trial.accepted.now l.trial.script.now l.trial.limit (length l.trial.kinds.now) (exploration_of l.options) l.fn.plain l.injections l.place
+      l.told.outcome_counts l.told.unexpected (record { before = g.W.Sink.out l.fn.out; now = g.W.Sink.out l.out; failed = g.W.Sink.failed l.out });
   within : l.place ≤ length l.injections;
 }
 
