@@ -30,8 +30,11 @@ returns-in_err-run_in_dispatch-clause-went g c = λ t strongest.
     let out = g.W.Sink.out c.run_in_dispatch.new.out in
     let off = c.in_err-run_in_dispatch.ensures.went t (strongest_as i.keeps t strongest) in
     let cut = observed_as i.keeps (λ q o. Breaks (Reaches q o) m.machine here out n.machine) off.1 in
-    rw c.from_residual.ensures (off.0, lines_cut t a.machine.core.image (outside_of a) c.args.lines.names c.args.lines.enters c.args.breakpoints.now c.loop-done.done
-    a.recent m.recent a.machine m.machine n.machine (g.W.Sink.out c.args.out.now) here out (i.so_far t strongest) cut)
+    rw c.from_residual.ensures (
+      off.0,
+      lines_cut t a.machine.core.image (outside_of a) c.args.lines.names c.args.lines.enters c.args.breakpoints.now c.loop-done.done
+          a.recent m.recent a.machine m.machine n.machine (g.W.Sink.out c.args.out.now) here out (i.so_far t strongest) cut,
+    )
 
 pub loop-done-preserved : goal.loop-done-preserved
 loop-done-preserved g c =
@@ -64,9 +67,11 @@ returns-clause-went g c = λ t strongest.
     let a = c.args.runner.now in
     let m = c.loop-done.runner in
     let i = c.loop-done.invariant in
-    let all : c.loop-done.done ≡ c.args.lines.count = omega (arith, c.loop-done-test.false, i.within) in
-    (all_lines t a.machine.core.image (outside_of a) c.args.lines.names c.args.lines.enters c.args.breakpoints.now c.args.lines.count c.loop-done.done all
-    a.recent m.recent a.machine m.machine (g.W.Sink.out c.args.out.now) (g.W.Sink.out c.loop-done.out) (i.so_far t strongest), c.progress.ensures)
+    let all : c.loop-done.done ≡ c.args.lines.count = omega (arith, c.loop-done-test.false, i.within) in (
+      all_lines t a.machine.core.image (outside_of a) c.args.lines.names c.args.lines.enters c.args.breakpoints.now c.args.lines.count c.loop-done.done all
+          a.recent m.recent a.machine m.machine (g.W.Sink.out c.args.out.now) (g.W.Sink.out c.loop-done.out) (i.so_far t strongest),
+      c.progress.ensures,
+    )
 
 pub line_scope-scope-requires : goal.line_scope-scope-requires
 line_scope-scope-requires g c = c.loop-done.invariant.keeps.ready.stands
