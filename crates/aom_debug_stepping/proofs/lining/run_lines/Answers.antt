@@ -5,7 +5,7 @@ use Rattle.aom_debug_stepping.specs.Runners.{outside_of}
 use Rattle.aom_debug_stepping.specs.Sends.{Breaks, Sends}
 use Rattle.aom_debug_stepping.specs.RunGoals.{InDispatch, dispatch_goal_of}
 use Rattle.aom_debug_stepping.specs.SourceLines.{scope_at}
-use Rattle.aom_debug_stepping.proofs.LineSteps.{LinesSo, all_lines, lines_cut, no_line, one_line_more}
+use Rattle.aom_debug_stepping.proofs.SourceSteps.{LinesSo, all_lines, lines_cut, no_line, one_line_more}
 use Rattle.aom_debug_stepping.proofs.Keeping.{keeps_all, keeps_on, observed_as}
 use Rattle.aom_debug_stepping.proofs.Typed.{strongest_as}
 use Rattle.aom_debug_stepping.proofs.lining.run_lines.Goals as goal
