@@ -1,5 +1,7 @@
 -- A line more, by its scope in each state.
 use Rattle.std.proofs.Common.{arith, subst, suc, ◌≡◌, ◌∙◌, ◌+◌, ap, sym}
+use Rattle.aom_run.specs.Calls.{RefinesWithNatives}
+use Rattle.aom_semantics.specs.State.{State}
 use Rattle.aom_semantics.specs.World.{Reaches}
 use Rattle.aom_debug_stepping.specs.Runners.{outside_of}
 use Rattle.aom_debug_stepping.specs.Sends.{Breaks, Sends}
@@ -53,7 +55,8 @@ loop-done-preserved g c =
       so_far = λ t strongest.
           let some = c.in_ok-run_in_dispatch.ensures.went t (strongest_as i.keeps t strongest) in
           let goes = observed_as i.keeps (λ q o. Sends (InDispatch q o (dispatch_goal_of t q o.refused marks c.line_goal-goal.result) m.recent n.recent) m.machine here out n.machine) some.0 in
-          let scopes = λ s st. c.line_scope-scope.ensures s st ∙ ap (λ q. scope_at q lines.names lines.enters s) i.keeps.image in
+          let scopes : (s : State) → RefinesWithNatives m.machine s → c.line_scope-scope.result ≡ scope_at p lines.names lines.enters s =
+          λ s st. c.line_scope-scope.ensures s st ∙ ap (λ q. scope_at q lines.names lines.enters s) i.keeps.image in
           subst (λ k. Sends (LinesSo t p (outside_of a) lines.names lines.enters marks k a.recent n.recent) a.machine before out n.machine) more
           (one_line_more t p (outside_of a) lines.names lines.enters marks c.loop-done.done a.recent m.recent a.machine m.machine n.machine before here out
           (i.so_far t strongest) n.recent c.progress-far.result c.progress-far.ensures c.line_scope-scope.result scopes c.line_goal-goal.result c.line_goal-goal.ensures goes);
