@@ -1,11 +1,13 @@
 -- A line more, by its scope in each state.
 use Rattle.std.proofs.Common.{arith, subst, suc, ◌≡◌, ◌∙◌, ◌+◌, ap, sym}
+use Rattle.aom_run.specs.Calls.{RefinesWithNatives}
+use Rattle.aom_semantics.specs.State.{State}
 use Rattle.aom_semantics.specs.World.{Reaches}
 use Rattle.aom_debug_stepping.specs.Runners.{outside_of}
 use Rattle.aom_debug_stepping.specs.Sends.{Breaks, Sends}
 use Rattle.aom_debug_stepping.specs.RunGoals.{InDispatch, dispatch_goal_of}
 use Rattle.aom_debug_stepping.specs.SourceLines.{scope_at}
-use Rattle.aom_debug_stepping.proofs.LineSteps.{LinesSo, all_lines, lines_cut, no_line, one_line_more}
+use Rattle.aom_debug_stepping.proofs.SourceSteps.{LinesSo, all_lines, lines_cut, no_line, one_line_more}
 use Rattle.aom_debug_stepping.proofs.Keeping.{keeps_all, keeps_on, observed_as}
 use Rattle.aom_debug_stepping.proofs.Typed.{strongest_as}
 use Rattle.aom_debug_stepping.proofs.lining.run_lines.Goals as goal
@@ -30,8 +32,11 @@ returns-in_err-run_in_dispatch-clause-went g c = λ t strongest.
     let out = g.W.Sink.out c.run_in_dispatch.new.out in
     let off = c.in_err-run_in_dispatch.ensures.went t (strongest_as i.keeps t strongest) in
     let cut = observed_as i.keeps (λ q o. Breaks (Reaches q o) m.machine here out n.machine) off.1 in
-    rw c.from_residual.ensures (off.0, lines_cut t a.machine.core.image (outside_of a) c.args.lines.names c.args.lines.enters c.args.breakpoints.now c.loop-done.done
-    a.recent m.recent a.machine m.machine n.machine (g.W.Sink.out c.args.out.now) here out (i.so_far t strongest) cut)
+    rw c.from_residual.ensures (
+      off.0,
+      lines_cut t a.machine.core.image (outside_of a) c.args.lines.names c.args.lines.enters c.args.breakpoints.now c.loop-done.done
+          a.recent m.recent a.machine m.machine n.machine (g.W.Sink.out c.args.out.now) here out (i.so_far t strongest) cut,
+    )
 
 pub loop-done-preserved : goal.loop-done-preserved
 loop-done-preserved g c =
@@ -50,7 +55,8 @@ loop-done-preserved g c =
       so_far = λ t strongest.
           let some = c.in_ok-run_in_dispatch.ensures.went t (strongest_as i.keeps t strongest) in
           let goes = observed_as i.keeps (λ q o. Sends (InDispatch q o (dispatch_goal_of t q o.refused marks c.line_goal-goal.result) m.recent n.recent) m.machine here out n.machine) some.0 in
-          let scopes = λ s st. c.line_scope-scope.ensures s st ∙ ap (λ q. scope_at q lines.names lines.enters s) i.keeps.image in
+          let scopes : (s : State) → RefinesWithNatives m.machine s → c.line_scope-scope.result ≡ scope_at p lines.names lines.enters s =
+          λ s st. c.line_scope-scope.ensures s st ∙ ap (λ q. scope_at q lines.names lines.enters s) i.keeps.image in
           subst (λ k. Sends (LinesSo t p (outside_of a) lines.names lines.enters marks k a.recent n.recent) a.machine before out n.machine) more
           (one_line_more t p (outside_of a) lines.names lines.enters marks c.loop-done.done a.recent m.recent a.machine m.machine n.machine before here out
           (i.so_far t strongest) n.recent c.progress-far.result c.progress-far.ensures c.line_scope-scope.result scopes c.line_goal-goal.result c.line_goal-goal.ensures goes);
@@ -64,9 +70,11 @@ returns-clause-went g c = λ t strongest.
     let a = c.args.runner.now in
     let m = c.loop-done.runner in
     let i = c.loop-done.invariant in
-    let all : c.loop-done.done ≡ c.args.lines.count = omega (arith, c.loop-done-test.false, i.within) in
-    (all_lines t a.machine.core.image (outside_of a) c.args.lines.names c.args.lines.enters c.args.breakpoints.now c.args.lines.count c.loop-done.done all
-    a.recent m.recent a.machine m.machine (g.W.Sink.out c.args.out.now) (g.W.Sink.out c.loop-done.out) (i.so_far t strongest), c.progress.ensures)
+    let all : c.loop-done.done ≡ c.args.lines.count = omega (arith, c.loop-done-test.false, i.within) in (
+      all_lines t a.machine.core.image (outside_of a) c.args.lines.names c.args.lines.enters c.args.breakpoints.now c.args.lines.count c.loop-done.done all
+          a.recent m.recent a.machine m.machine (g.W.Sink.out c.args.out.now) (g.W.Sink.out c.loop-done.out) (i.so_far t strongest),
+      c.progress.ensures,
+    )
 
 pub line_scope-scope-requires : goal.line_scope-scope-requires
 line_scope-scope-requires g c = c.loop-done.invariant.keeps.ready.stands

@@ -8,12 +8,12 @@ use Rattle.aom_debug_stepping.proofs.source_lines.has_left.Goals as goal
 
 pub returns-in-Some : goal.returns-in-Some
 returns-in-Some g c = λ s st.
-    let reported = rw (c.parts.ensures.parts, c.linked.ensures, c.accepted.ensures) at c.in-Some.ensures in
-    let many = c.len.ensures ∙ ap (λ (m : Parts). length m.stack.tasks) c.parts.ensures.parts ∙ same_length _ s.tasks st.stands.agrees.tasks in
+    let reported = rw (c.parts-parts.ensures.parts, c.linked.ensures, c.accepted.ensures) at c.in-Some.ensures in
+    let many = c.len.ensures ∙ ap (λ (m : Parts). length m.stack.tasks) c.parts-parts.ensures.parts ∙ same_length _ s.tasks st.stands.agrees.tasks in
     c.leaves_at.ensures ∙ ap (λ n. leaves_at c.args.scope.now n (line_at c.args.scope.now.names c.in-Some.spot)) many
     ∙ ap (has_left c.args.scope.now (length s.tasks)) (reported s st.stands)
 
 pub returns-in-None : goal.returns-in-None
 returns-in-None g c = λ s st.
-    let reported = rw (c.parts.ensures.parts, c.linked.ensures, c.accepted.ensures) at c.in-None.ensures in
+    let reported = rw (c.parts-parts.ensures.parts, c.linked.ensures, c.accepted.ensures) at c.in-None.ensures in
     ap (has_left c.args.scope.now (length s.tasks)) (reported s st.stands)
