@@ -1,1 +1,5 @@
 pub mod Lists
+pub mod MessageTexts
+pub mod Nesting
+pub mod OpenDocuments
+pub mod WholeTexts

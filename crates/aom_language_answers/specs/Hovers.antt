@@ -1,11 +1,14 @@
 -- What is told of a name and of its line.
-use Rattle.std.specs.Prelude.{ℕ, zero, suc, ◌+◌, ◌-◌, ◌==◌, ◌||◌, Bool, false, min, nat_lt, if◌then◌else◌, List, [], ◌∷◌, ◌++◌, drop, flat_map, get_or, length, slice_index, take, Option, Some, None, unwrap_or}
+use Rattle.std.specs.Prelude.{ℕ, zero, suc, ◌+◌, ◌-◌, ◌==◌, ◌||◌, Bool, false, min, nat_lt, if◌then◌else◌, List, [], ◌∷◌, ◌++◌, codes, drop, flat_map, get_or, length, slice_index, take, Option, Some, None, unwrap_or}
 use Rattle.aom_source_names.specs.Meanings.{definitions_of}
 use Rattle.aom_source_names.specs.Spots.{spot_at}
 use Rattle.aom_source_scopes.specs.Scopes.{word_at}
 use Rattle.aom_source_scopes.specs.Words.{is_end}
 use Rattle.aom_source_tokens.specs.Tokens.{Source, token_at}
-use Rattle.aom_language_answers.specs.Places.{found_or}
+use Rattle.serde_json.specs.Data.{Data, null, object, string, member, no_members}
+use Rattle.aom_language_answers.specs.Places.{first_name_at, found_or, name_range}
+use Rattle.aom_language_answers.specs.Positions.{range_data}
+use Rattle.aom_language_answers.specs.Texts.{text_or_none}
 use Rattle.aom_language_answers.specs.declared.position.Position.{Position}
 
 abbrev pub is_blank : ℕ → Bool
@@ -69,3 +72,22 @@ begins_in s (declared ∷ more) line = line_of s declared == line
 abbrev pub hover_text : Source → (text : List ℕ) → (notes : List (List ℕ)) → Position → Option ℕ → List ℕ
 hover_text s text notes wanted name =
     declarations_text s notes (take (min (length (found_at s name)) 16) (found_at s name)) ++ (if begins_in s (found_at s name) wanted.line then [] else note_text notes wanted.line)
+
+-- ---- as JSON
+
+abbrev pub contents_data : (told : List ℕ) → Data
+contents_data told = object (member (codes "kind") (string (codes "plaintext")) (member (codes "value") (string told) no_members))
+
+-- what is told, with the range of the name, if there is one
+abbrev pub told_data : Source → (text : List ℕ) → (name : Option ℕ) → (told : List ℕ) → Data
+told_data s text None told = object (member (codes "contents") (contents_data told) no_members)
+told_data s text (Some at) told =
+    object (member (codes "contents") (contents_data told) (member (codes "range") (range_data (name_range s text at)) no_members))
+
+abbrev pub told_or_null : Source → (text : List ℕ) → (name : Option ℕ) → (told : List ℕ) → Data
+told_or_null s text name told = if length told == 0 then null else told_data s text name told
+
+-- null, where nothing is told
+abbrev pub hover_data : Source → (text : List ℕ) → (notes : List (List ℕ)) → Position → Data
+hover_data s text notes wanted =
+    told_or_null s text (first_name_at s text wanted) (text_or_none (hover_text s text notes wanted (first_name_at s text wanted)))

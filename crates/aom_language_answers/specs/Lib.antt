@@ -1,7 +1,11 @@
 pub mod Diagnostics
 pub mod Hovers
+pub mod Messages
+pub mod OpenDocuments
+pub mod Outline
 pub mod Parameters
 pub mod Places
 pub mod Positions
 pub mod Renaming
 pub mod Replies
+pub mod Texts

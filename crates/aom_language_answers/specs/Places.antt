@@ -1,5 +1,5 @@
 -- Where names are, and where they are declared.
-use Rattle.std.specs.Prelude.{ℕ, zero, suc, ◌==◌, ◌&&◌, Bool, true, false, nat_le, if◌then◌else◌, List, codes, length, map, Option, Some, None}
+use Rattle.std.specs.Prelude.{ℕ, zero, suc, ◌==◌, ◌&&◌, Bool, nat_le, if◌then◌else◌, List, codes, length, map, Option, Some, None}
 use Rattle.aom_source_names.specs.Meanings.{definitions_of}
 use Rattle.aom_source_names.specs.Words.{is_name}
 use Rattle.aom_source_scopes.specs.Scopes.{word_at}

@@ -1,8 +1,8 @@
 //! What parameters say of documents.
 ghost use Rattle.std.specs.Prelude.{◌≡◌, codes, option_and_then, option_map};
 ghost use Rattle.serde_json.specs.Find.{as_str, pointer};
-ghost use Rattle.serde_json.specs.View.{view};
-ghost use Rattle.aom_language_answers.specs.Parameters.{number_said, position_said};
+ghost use Rattle.serde_json.specs.View.{items_view, view};
+ghost use Rattle.aom_language_answers.specs.Parameters.{changed_text, last_text, number_said, position_said, whole_text, whole_texts};
 
 use crate::position::Position;
 use serde_json::Value;
@@ -21,17 +21,33 @@ pub fn opened_text(params: &Value) -> Option<&str>
     params.pointer("/textDocument/text").and_then(Value::as_str)
 }
 
-/// The text of a document behind its changes, of which each is the whole text. One that is a part is none.
-pub fn changed_text(params: &Value) -> Option<&str> {
+/// The text of a document behind its changes: the last one's. None, where one is a part or has no text, or where there are none.
+pub fn changed_text(params: &Value) -> Option<&str>
+    ensures { option_map (λ text. text.now) result ≡ changed_text (view params.now) }
+{
     let changes = params.get("contentChanges").and_then(Value::as_array)?;
+    last_text(changes)
+}
+
+/// The last text of some changes, if each has one.
+fn last_text(changes: &[Value]) -> Option<&str>
+    ensures { option_map (λ text. text.now) result ≡ last_text (whole_texts (items_view changes.now)) }
+{
     let mut text = None;
     for change in changes {
-        if change.get("range").is_some() {
-            return None;
-        }
-        text = Some(change.get("text").and_then(Value::as_str)?);
+        text = Some(whole_text(change)?);
     }
     text
+}
+
+/// The text of a change that is no part.
+fn whole_text(change: &Value) -> Option<&str>
+    ensures { option_map (λ text. text.now) result ≡ whole_text (view change.now) }
+{
+    if change.get("range").is_some() {
+        return None;
+    }
+    change.get("text").and_then(Value::as_str)
 }
 
 /// The position that parameters name.

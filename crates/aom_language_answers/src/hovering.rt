@@ -1,12 +1,14 @@
 //! What is told of a name and of its line.
 ghost use Rattle.std.specs.Prelude.{◌≡◌, ◌++◌, ◌<◌, ◌^◌, IfOk, OnOk, map};
 ghost use Rattle.aom_source_tokens.specs.Tokens.{word_of};
+ghost use Rattle.serde_json.specs.View.{view};
 ghost use Rattle.aom_source_scopes.specs.Words.{is_end};
-ghost use Rattle.aom_language_answers.specs.Hovers.{begins_in, declaration_text, declarations_text, found_at, head_end, head_text, hover_text, is_blank, line_of, note_text, trimmed};
+ghost use Rattle.aom_language_answers.specs.Hovers.{begins_in, declaration_text, declarations_text, found_at, head_end, head_text, hover_data, hover_text, is_blank, line_of, note_text, told_data, trimmed};
 ghost use Rattle.aom_language_answers.specs.Places.{first_name_at};
 
 use crate::places::{name_at, range_of};
 use crate::position::{Position, Ruler};
+use crate::texts::text_or_none;
 use aom_source_names::Names;
 use aom_source_tokens::{Kind, Mark};
 use serde_json::{Value, json};
@@ -23,22 +25,35 @@ pub fn hover(
     ruler: &mut Ruler<'_>,
     wanted: Position,
     notes: &[Vec<u8>],
-) -> Result<Value, AllocError> {
+) -> Result<Value, AllocError>
+    ensures same { ruler.new ≡ ruler.old }
+    ensures is { IfOk result (λ v. view v ≡ hover_data names.now ruler.old (map (λ note. note.items) notes.now) wanted) }
+{
     let told = hover_text(alloc, names, ruler, wanted, notes)?;
-    let Ok(told) = std::str::from_utf8(&told) else {
-        return Ok(Value::Null);
-    };
+    let told = text_or_none(&told);
     if told.is_empty() {
         return Ok(Value::Null);
     }
+    told_value(alloc, names, ruler, wanted, told)
+}
+
+/// What is told, with the range of the name at a position, if there is one.
+fn told_value(
+    alloc: Global,
+    names: &Names<'_, '_>,
+    ruler: &mut Ruler<'_>,
+    wanted: Position,
+    told: &str,
+) -> Result<Value, AllocError>
+    ensures same { ruler.new ≡ ruler.old }
+    ensures is { IfOk result (λ v. view v ≡ told_data names.now ruler.old (first_name_at names.now ruler.old wanted) told.now) }
+{
     let contents = json!(in alloc; {"kind": "plaintext", "value": told})?;
-    match name_at(names, ruler, wanted) {
-        Some(at) => {
-            let range = range_of(alloc, names, ruler, at)?;
-            json!(in alloc; {"contents": contents, "range": range})
-        }
-        None => json!(in alloc; {"contents": contents}),
-    }
+    let Some(at) = name_at(names, ruler, wanted) else {
+        return json!(in alloc; {"contents": contents});
+    };
+    let range = range_of(alloc, names, ruler, at)?;
+    json!(in alloc; {"contents": contents, "range": range})
 }
 
 /// The heads of the declarations of the name at a position, each with what `show` writes behind its line; then what it writes behind the position's own line, if the

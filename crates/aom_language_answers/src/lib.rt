@@ -13,6 +13,7 @@ mod position;
 mod renaming;
 mod replies;
 mod request;
+mod texts;
 
 pub use changes::{changed_text, opened_text, position_of, uri_of};
 pub use diagnosing::diagnostic;
@@ -24,3 +25,4 @@ pub use position::{Position, Range, Ruler, Walk};
 pub use renaming::{prepare, rename};
 pub use replies::{ReplyFault, notice, refuse, reply};
 pub use request::{Incoming, read_message};
+pub use texts::text_or_none;

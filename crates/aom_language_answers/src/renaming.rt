@@ -4,7 +4,7 @@ ghost use Rattle.aom_source_names.specs.Meanings.{has_name};
 ghost use Rattle.serde_json.specs.Data.{member, no_members, object};
 ghost use Rattle.serde_json.specs.View.{view};
 ghost use Rattle.aom_language_answers.specs.Places.{first_name_at};
-ghost use Rattle.aom_language_answers.specs.Renaming.{edit_data, edits_data, rename_data};
+ghost use Rattle.aom_language_answers.specs.Renaming.{edit_data, edits_data, prepare_data, rename_data};
 
 use crate::places::{name_at, range_of};
 use crate::position::{Position, Ruler};
@@ -16,13 +16,16 @@ use std::alloc::{AllocError, Global};
 /// The most places that are changed at once.
 const MOST_PLACES: usize = 4096;
 
-/// The range of the name at a position, if that can be renamed: if it is declared in the source.
+/// The range of the name at a position, if that can be renamed: if it is declared in the source. Null, where it cannot.
 pub fn prepare(
     alloc: Global,
     names: &Names<'_, '_>,
     ruler: &mut Ruler<'_>,
     wanted: Position,
-) -> Result<Value, AllocError> {
+) -> Result<Value, AllocError>
+    ensures same { ruler.new ≡ ruler.old }
+    ensures is { IfOk result (λ v. view v ≡ prepare_data names.now ruler.old (first_name_at names.now ruler.old wanted)) }
+{
     let Some(at) = name_at(names, ruler, wanted) else {
         return Ok(Value::Null);
     };

@@ -3,6 +3,7 @@
 //! What is answered is JSON of `aom_language_answers`; faults and notes are those of `compile` and `show`.
 #![tactic(auto)]
 
+mod queries;
 mod server;
 mod serving;
 mod telling;

@@ -1,6 +1,7 @@
 //! A session over a reader and a sink.
-ghost use Rattle.std.specs.Prelude.{◌≡◌, ◌++◌, List, OnOk, false, option_map, ℕ};
+ghost use Rattle.std.specs.Prelude.{◌≡◌, ◌++◌, IfOk, List, OnOk, Some, false, option_map, take, ℕ};
 ghost use Rattle.aom_message_framing.specs.Frames.{frame_text};
+ghost use Rattle.aom_language_server.specs.Sessions.{Wrote, WroteBeginning, WroteFrames, end_of};
 
 use crate::server::{Answers, Server};
 use aom_message_framing::{Frame, Frames, frame_of};
@@ -28,7 +29,9 @@ pub fn serve<R: Reader, W: Sink>(
     reader: &mut R,
     reads: u64,
     out: &mut W,
-) -> Result<Ended, AllocError> {
+) -> Result<Ended, AllocError>
+    ensures { IfOk result (λ ended. Wrote (Some ended) (W.out out.old) (W.out out.new)) }
+{
     let mut server = Server::new(alloc);
     let mut frames = Frames::new(alloc);
     let mut buffer = [0; AT_ONCE];
@@ -45,7 +48,9 @@ pub fn serve<R: Reader, W: Sink>(
     Ok(end_of(server.is_ending()))
 }
 
-fn end_of(in_order: bool) -> Ended {
+fn end_of(in_order: bool) -> Ended
+    ensures { result ≡ end_of in_order }
+{
     if in_order {
         Ended::InOrder
     } else {
@@ -60,7 +65,9 @@ fn hear<W: Sink>(
     frames: &mut Frames,
     bytes: &[u8],
     out: &mut W,
-) -> Result<Option<Ended>, AllocError> {
+) -> Result<Option<Ended>, AllocError>
+    ensures { IfOk result (λ ended. Wrote ended (W.out out.old) (W.out out.new)) }
+{
     for byte in bytes {
         let Some(frame) = frames.hear(*byte)? else {
             continue;
@@ -78,7 +85,9 @@ fn answer<W: Sink>(
     server: &mut Server,
     frame: Frame,
     out: &mut W,
-) -> Result<Option<Ended>, AllocError> {
+) -> Result<Option<Ended>, AllocError>
+    ensures { IfOk result (λ ended. Wrote ended (W.out out.old) (W.out out.new)) }
+{
     let sent = match frame {
         Frame::Message(message) => match server.answer(&message)? {
             Answers::Sent(sent) => sent,
@@ -86,18 +95,39 @@ fn answer<W: Sink>(
         },
         Frame::TooLong | Frame::NoLength => Some(server.answer_no_message()?),
     };
-    if let Some(value) = sent {
-        send(alloc, &value, out)?;
-    }
+    deliver(alloc, sent, out)
+}
+
+/// Sends a message, if there is one. The session ends where the sink has failed.
+fn deliver<W: Sink>(
+    alloc: Global,
+    sent: Option<Value>,
+    out: &mut W,
+) -> Result<Option<Ended>, AllocError>
+    ensures { IfOk result (λ ended. Wrote ended (W.out out.old) (W.out out.new)) }
+{
+    send_any(alloc, sent, out)?;
     if out.has_failed() {
         return Ok(Some(Ended::Failed));
     }
     Ok(None)
 }
 
+/// Sends a message in its frame, if there is one.
+fn send_any<W: Sink>(alloc: Global, sent: Option<Value>, out: &mut W) -> Result<(), AllocError>
+    ensures whole { OnOk result (W.failed out.new ≡ false → WroteFrames (W.out out.old) (W.out out.new)) }
+    ensures beginning { OnOk result (WroteBeginning (W.out out.old) (W.out out.new)) }
+{
+    match sent {
+        Some(value) => send(alloc, &value, out),
+        None => Ok(()),
+    }
+}
+
 /// Sends a message in its frame.
 fn send<W: Sink>(alloc: Global, value: &Value, out: &mut W) -> Result<(), AllocError>
-    ensures { OnOk result (W.failed out.new ≡ false → (text : List ℕ) × (W.out out.new ≡ option_map (λ t. t ++ frame_text text) (W.out out.old))) }
+    ensures whole { OnOk result (W.failed out.new ≡ false → WroteFrames (W.out out.old) (W.out out.new)) }
+    ensures beginning { OnOk result (WroteBeginning (W.out out.old) (W.out out.new)) }
 {
     let text = value.to_string(alloc)?;
     let frame = frame_of(alloc, text.as_bytes())?;

@@ -1,6 +1,5 @@
 -- The bytes so far are of a word.
-use Rattle.std.proofs.Common.{◌≡◌, ◌≤◌, ◌+◌, ◌-◌, not, drop, length}
-use Rattle.std.specs.List.{position_or_len}
+use Rattle.std.proofs.Common.{◌≡◌, ◌≤◌, ◌+◌, ◌-◌, drop, length}
 use Rattle.aom_language_answers.specs.Diagnostics.{word_bytes}
 use Rattle.aom_language_answers.proofs.diagnosing.word_bytes.Given as goal
 

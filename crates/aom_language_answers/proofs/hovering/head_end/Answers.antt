@@ -1,5 +1,5 @@
 -- All tokens from the declaration on were looked at.
-use Rattle.std.proofs.Common.{◌≡◌, ◌∙◌, ◌-◌, ◌≤◌, ap, arith, length, unwrap_or}
+use Rattle.std.proofs.Common.{◌≡◌, ◌∙◌, ◌-◌, ap, arith, length, unwrap_or}
 use Rattle.aom_language_answers.specs.Hovers.{first_end}
 use Rattle.aom_language_answers.proofs.hovering.head_end.Goals as goal
 
