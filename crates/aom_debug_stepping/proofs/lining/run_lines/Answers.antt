@@ -1,5 +1,5 @@
 -- A line more, by its scope in each state.
-use Rattle.std.proofs.Common.{arith, subst, suc, ◌≡◌, ◌∙◌, ◌+◌, ap, sym}
+use Rattle.std.proofs.Common.{arith, subst, suc, ◌≡◌, ◌∙◌, ◌+◌, ap}
 use Rattle.aom_run.specs.Calls.{RefinesWithNatives}
 use Rattle.aom_semantics.specs.State.{State}
 use Rattle.aom_semantics.specs.World.{Reaches}
