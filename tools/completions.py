@@ -153,7 +153,7 @@ def zsh_value(name):
 
 def zsh_option(option):
     value = f":{option.value}:{zsh_value(option.value)}" if option.value else ""
-    return quoted(f"--{option.name}[{bracketed(option.help)}]{value}")
+    return quoted(f"{'*' if option.many else ''}--{option.name}[{bracketed(option.help)}]{value}")
 
 
 # what may stand in the place of an image, by the option that says so

@@ -1,5 +1,5 @@
 """What a page of a run does beside going step by step: dispatches, breakpoints, the search, clicks on the transcript and on the drawing, plus and minus,
-a step behind the page's name. What each has to lead to is told by what stood on the page at each step, which `views` compares with the debugger."""
+the drawing closer and farther, its tracks, a step and a breakpoint behind the page's name. What each has to lead to is told by what stood on the page at each step, which `views` compares with the debugger."""
 
 import collections
 import re
@@ -7,10 +7,13 @@ import re
 STEP = "JSON.stringify(Number(document.querySelector('#slider').value))"
 PRESSED = "[...document.querySelectorAll('.row')].filter((it) => it.querySelector('button[aria-pressed=true]')).map((it) => Number(it.querySelector('.number').textContent))"
 FOCUS = "JSON.stringify(document.activeElement.id)"
+ADDRESS = "JSON.stringify(addressOf())"
+TRACKS = "JSON.stringify([...document.querySelectorAll('#drawing .track title')].map((it) => it.textContent))"
+WIDTH = "JSON.stringify(document.querySelector('#drawing svg').getBoundingClientRect().width)"
 MARKED = """JSON.stringify(['new', 'gone'].map((kind) =>
   [...document.querySelectorAll('[data-look]')].map((box) => [...box.querySelectorAll(`.line.${kind} .raw`)].map((it) => it.textContent))))"""
 DRAWN = """JSON.stringify({
-  lanes: [...document.querySelectorAll('#drawing svg > text:not(.time)')].map((it) => it.textContent),
+  lanes: [...document.querySelectorAll('#drawing .lanes > div')].map((it) => it.textContent),
   bars: [...document.querySelectorAll('#drawing .bar title')].map((it) => it.textContent),
   marks: [...document.querySelectorAll('#drawing .mark title, #drawing .out title')].map((it) => it.textContent),
 })"""
@@ -118,9 +121,31 @@ class Controls:
             at = [line for line, it in enumerate(self.transcript()) if it.startswith("@")][number]
             yield f"a click on the bar of dispatch {number}", self.step_of(at), self.step()
 
+    def zoom(self):
+        """The drawing is wider by a key, narrower by another, and then as it was; the lanes' names stay where they are."""
+        self.after("Home")
+        first = self.browser.value(WIDTH)
+        wider = (self.browser.press("+"), self.browser.value(WIDTH))[1]
+        yield "+ brings the drawing closer", True, wider > first
+        yield "- takes it away again", first, (self.browser.press("-"), self.browser.value(WIDTH))[1]
+
+    def tracks(self):
+        """The first track tells the most cells at once, which the looks told too."""
+        at = self.looks.index("cells")
+        most = max(int(it["looks"][at][0].split()[1]) for it in self.seen)
+        yield "the track of cells", f"cells: at most {most}", self.browser.value(TRACKS)[0]
+
+    def address(self):
+        """The step stands in the address, and a breakpoint where one is set."""
+        self.after("Home", *["ArrowRight"] * 7)
+        yield "the address has the step", "#7", self.browser.value(ADDRESS)
+        line = self.seen[7]["next"][0]
+        yield "and a breakpoint", f"#7;break={line}", (self.browser.press("b"), self.browser.value(ADDRESS))[1]
+        self.browser.press("b")
+
     def all(self, looks):
-        self.recent = looks.index("recent")
-        for part in (self.dispatches, self.breakpoints, self.search, self.clicks, self.marks, self.drawing):
+        self.looks, self.recent = looks, looks.index("recent")
+        for part in (self.dispatches, self.breakpoints, self.search, self.clicks, self.marks, self.drawing, self.zoom, self.tracks, self.address):
             yield from part()
 
 

@@ -20,12 +20,17 @@ class Unreadable(Exception):
 
 
 class Option(NamedTuple):
-    """An option: the name of its value, if it takes one, and what that is where it is left out."""
+    """An option: the name of its value, if it takes one, what that is where it is left out, and whether it may stand more than once."""
 
     name: str
     value: str
     help: str
     standard: str
+    many: bool = False
+
+    def synopsis(self):
+        told = f"[--{self.name} {self.value}]" if self.value else f"[--{self.name}]"
+        return f"{told}.." if self.many else told
 
 
 class Argument(NamedTuple):
@@ -41,8 +46,7 @@ class Command(NamedTuple):
     arguments: list
 
     def synopsis(self):
-        options = [f"[--{it.name} {it.value}]" if it.value else f"[--{it.name}]" for it in self.options]
-        return " ".join([self.name, *options, *(f"[{it.name}].." if it.many else it.name for it in self.arguments)])
+        return " ".join([self.name, *(it.synopsis() for it in self.options), *(f"[{it.name}].." if it.many else it.name for it in self.arguments)])
 
 
 class Instruction(NamedTuple):
@@ -92,7 +96,7 @@ def option_of(name, body):
     if flag:
         return Option(flag[1], "", flag[2], "")
     long, value, text = found(rf"\.long\({TEXT}\).*?\.value_name\({TEXT}\).*?\.help\(\s*{TEXT}", body, f"the form of {name} in {ARGS}")
-    return Option(long, value, text, "")
+    return Option(long, value, text, "", "ArgAction::Append" in body)
 
 
 def command_of(name, functions):

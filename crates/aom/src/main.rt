@@ -13,9 +13,9 @@ ghost use Rattle.aom_commands.specs.Beside.{AreNew};
 use aom_command_line::{FileKind, RunWords, TriesWords, Words, WordsFault, read_words};
 use aom_commands::{ExitStatus, Fault, Translation, assemble_bytes, translate_bytes};
 use aom_diagnostic_commands::{
-    Program, Telling, asm, check, check_all, debug, dot, explore, run, warn, warn_script,
+    Program, Telling, asm, check, check_all, debug, dot, explore_with, run, warn, warn_script,
 };
-use aom_fault_injection::{Part, Tries};
+use aom_fault_injection::{ExploreOptions, Part, Tries};
 use aom_host::{Commands, Input, Output, ReadError, read_file};
 use aom_language_server::{Ended, serve as serve_editor};
 use aom_natives::{Counter, Delay, Line, Native, NativeKind};
@@ -215,8 +215,19 @@ fn execute<'a, W: Sink, E: Sink>(
             let purpose = Purpose::Debug { file, prompt };
             run_beside(rt, run, text, purpose, out, errors)
         }
-        Words::Explore { run, tries, text } => {
-            explore_beside(rt, run, text, tries_of(*tries), out, errors)
+        Words::Explore {
+            run,
+            tries,
+            base,
+            expected,
+            text,
+        } => {
+            let options = ExploreOptions {
+                tries: tries_of(*tries),
+                base: *base,
+                expected: expected.as_slice(),
+            };
+            explore_beside(rt, run, text, options, out, errors)
         }
         Words::Asm { text, .. } => {
             let text = read_file(rt, text)?;
@@ -450,7 +461,7 @@ fn explore_beside<'a, W: Sink, E: Sink>(
     rt: &HostRuntime,
     words: &'a RunWords,
     text: &'a Option<String>,
-    tries: Tries,
+    options: ExploreOptions<'_>,
     out: &mut W,
     errors: &mut E,
 ) -> Result<ExitStatus, Unready<'a>>
@@ -458,13 +469,13 @@ fn explore_beside<'a, W: Sink, E: Sink>(
 {
     let files = RunFiles::read(rt, words, text)?;
     let (program, kinds) = (files.program.program(), words.natives.as_slice());
-    Ok(explore(
+    Ok(explore_with(
         rt.alloc(),
         program,
         &files.script,
         words.limit,
         kinds,
-        tries,
+        options,
         out,
         errors,
     ))

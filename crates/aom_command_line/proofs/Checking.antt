@@ -19,7 +19,7 @@ module _ (explain lines prices : Bool) (none : ((explain || lines) || prices) �
 pub checks_no_text : (rows : List Row) (explain lines prices : Bool) (fault : WordsFault) → IsFlag (one_of (codes "explain") rows) explain →
     IsFlag (one_of (codes "lines") rows) lines → IsFlag (one_of (codes "prices") rows) prices → DeclinesText rows ((explain || lines) || prices) fault →
     Declines true (Some (codes "check", rows)) fault
-checks_no_text rows explain lines prices (faults.Text text) e l p (inl lacks) = λ taken command. inl (
+checks_no_text rows explain lines prices (faults.Text text) e l p (inl lacks) = λ taken command. inl (inl (
   refl,
   inr (inl (record {
     named = lacks.0;
@@ -31,15 +31,15 @@ checks_no_text rows explain lines prices (faults.Text text) e l p (inl lacks) = 
       ),
     );
   })),
-)
-checks_no_text rows explain lines prices (faults.Text text) e l p (inr two) = λ taken command. inl (refl, inr (inr (inl two)))
+))
+checks_no_text rows explain lines prices (faults.Text text) e l p (inr two) = λ taken command. inl (inl (refl, inr (inr (inl two))))
 checks_no_text rows explain lines prices faults.Native e l p d = absurd d
 checks_no_text rows explain lines prices faults.Memory e l p d = d
 
 pub runs_no_text : (rows : List Row) (explain names warn : Bool) (fault : WordsFault) → IsFlag (one_of (codes "explain") rows) explain →
     IsFlag (one_of (codes "names") rows) names → IsFlag (one_of (codes "warn") rows) warn → DeclinesText rows ((explain || names) || warn) fault →
     Declines true (Some (codes "run", rows)) fault
-runs_no_text rows explain names warn (faults.Text text) e n w (inl lacks) = λ taken command. inr (inl (
+runs_no_text rows explain names warn (faults.Text text) e n w (inl lacks) = λ taken command. inl (inr (inl (
   refl,
   inr (inl (record {
     named = lacks.0;
@@ -51,7 +51,7 @@ runs_no_text rows explain names warn (faults.Text text) e n w (inl lacks) = λ t
       ),
     );
   })),
-))
-runs_no_text rows explain names warn (faults.Text text) e n w (inr two) = λ taken command. inr (inl (refl, inr (inr (inl two))))
+)))
+runs_no_text rows explain names warn (faults.Text text) e n w (inr two) = λ taken command. inl (inr (inl (refl, inr (inr (inl two)))))
 runs_no_text rows explain names warn faults.Native e n w d = absurd d
 runs_no_text rows explain names warn faults.Memory e n w d = d

@@ -22,10 +22,12 @@ use Rattle.aom_command_line.specs.declared.words.WordsFault.{WordsFault}
 use Rattle.aom_command_line.specs.declared.words.WordsFault.TheVariants as faults
 use Rattle.aom_natives.specs.Kinds.{word_of as word_of_kind}
 use Rattle.aom_natives.specs.declared.kind.NativeKind.{NativeKind}
+use Rattle.aom_fault_injection.specs.Expected.{expected_said}
+use Rattle.aom_fault_injection.specs.declared.expected.ExpectedEnding.{ExpectedEnding}
 use Rattle.aom_command_line.specs.declared.words.FileKind.{FileKind}
 use Rattle.aom_command_line.specs.declared.words.FileKind.TheVariants.{Image, Assembly, Source}
-use Rattle.aom_command_line.specs.CommandLine.{is_assembly, is_image, IsCommand, HasNoUseForText, Declines, AsksKind, AsksLines, AsksNames, AsksText, DeclinesLines, DeclinesTextless}
-use Rattle.aom_command_line.specs.CommandLine.{HasForm, IsFlag, NamesTwoTexts, NamesKinds, NamesNoKinds, Says, form, texts_in, word_of}
+use Rattle.aom_command_line.specs.CommandLine.{is_assembly, is_image, IsCommand, HasNoUseForText, ExpectsNoEnding, Declines, AsksKind, AsksLines, AsksNames, AsksText, DeclinesLines, DeclinesTextless}
+use Rattle.aom_command_line.specs.CommandLine.{HasForm, IsFlag, NamesTwoTexts, NamesKinds, NamesNoKinds, Says, SaysEndings, SaysNoEnding, form, texts_in, word_of}
 
 same : {E : Type 0} (v n : ℕ) (r : Result ℕ E) → r ≡ Ok v → r ≡ Ok n → Some v ≡ Some n
 same v n r a b = cc
@@ -58,7 +60,7 @@ chosen f id o d r is empty found = ap (λ (s : Bor Text). s.now) is ∙ read o d
     read (Some s) d e = refl
 
 -- without a command there is none
-pub nothing_met : (met : Option (Text × List Row)) → None ≡ option_map (λ p. p.1) met → true ≡ true → IsCommand met → HasNoUseForText met
+pub nothing_met : (met : Option (Text × List Row)) → None ≡ option_map (λ p. p.1) met → true ≡ true → IsCommand met → HasNoUseForText met ⊎ ExpectsNoEnding met
 nothing_met x e taken is = grind arith
 
 -- an argument for its own command alone leaves a command as it was in this
@@ -168,6 +170,30 @@ pub no_kind : (words : List (Bor Text)) (i : ℕ) (d : Bor Text) → i < length 
 no_kind words i d within none =
     let now : Bor Text → Text = λ w. w.now in
     inr ((slice_index_or words i d).now, subst (Contains (texts_in words)) (get_or-map now words i d d.now within) (Contains-get_or (texts_in words) i d.now (rw (length-map words now) within)), none)
+
+-- ---- the words of endings
+
+-- one word more says one ending more
+pub one_more_ending : (words : List (Bor Text)) (i : ℕ) (d : Bor Text) (expected more : List ExpectedEnding) (ending : ExpectedEnding) →
+    i < length words → map expected_said (take i (texts_in words)) ≡ map (λ one. Some one) expected → Some ending ≡ expected_said (slice_index_or words i d).now →
+    more ≡ expected ++ ending ∷ [] → map expected_said (take (i + 1) (texts_in words)) ≡ map (λ one. Some one) more
+one_more_ending words i d expected more ending within same is grown =
+    let now : Bor Text → Text = λ w. w.now in
+    let some : ExpectedEnding → Option ExpectedEnding = λ one. Some one in
+    let next : take (i + 1) (texts_in words) ≡ take i (texts_in words) ++ (slice_index_or words i d).now ∷ [] =
+    take-map now (i + 1) words ∙ map_more now words i d within ∙ ap (λ xs. xs ++ (slice_index_or words i d).now ∷ []) (sym (take-map now i words)) in
+    ap (map expected_said) next ∙ map-append expected_said (take i (texts_in words)) ((slice_index_or words i d).now ∷ [])
+    ∙ ap₂ (λ xs o. xs ++ o ∷ []) same (sym is) ∙ sym (map-append some expected (ending ∷ [])) ∙ ap (map some) (sym grown)
+
+-- one of the words says none
+pub no_ending : (words : List (Bor Text)) (i : ℕ) (d : Bor Text) → i < length words → None ≡ expected_said (slice_index_or words i d).now →
+    SaysNoEnding (Some (texts_in words))
+no_ending words i d within none =
+    let now : Bor Text → Text = λ w. w.now in
+    ((slice_index_or words i d).now, subst (Contains (texts_in words)) (get_or-map now words i d d.now within) (Contains-get_or (texts_in words) i d.now (rw (length-map words now) within)), sym none)
+
+pub none_expected : (words : Option (List Text)) (expected : List ExpectedEnding) → None ≡ words → expected ≡ [] → SaysEndings words expected
+none_expected words expected none empty = rw (← none, empty) refl
 
 -- the words that are found for natives
 pub found_words : (f : Found) (id : Text) (words : List (Bor Text)) → Some (texts_in words) ≡ option_map raw_values (matched_of f id) →

@@ -15,6 +15,8 @@ use Rattle.clap.specs.declared.error.kind.ErrorKind.{ErrorKind}
 use Rattle.clap.specs.declared.error.kind.ErrorKind.TheVariants.{OutOfMemory}
 use Rattle.aom_natives.specs.Kinds.{word_of as word_of_kind}
 use Rattle.aom_natives.specs.declared.kind.NativeKind.{NativeKind}
+use Rattle.aom_fault_injection.specs.Expected.{expected_said}
+use Rattle.aom_fault_injection.specs.declared.expected.ExpectedEnding.{ExpectedEnding}
 use Rattle.aom_command_line.specs.declared.words.FileKind.{FileKind}
 use Rattle.aom_command_line.specs.declared.words.FileKind.TheVariants.{Image, Assembly, Source}
 use Rattle.aom_command_line.specs.declared.words.RunWords.{RunWords}
@@ -99,6 +101,19 @@ deaths_rule = flag_rule (codes "deaths")
 abbrev pub pairs_rule : Rule
 pairs_rule = flag_rule (codes "pairs")
 
+-- `--base`
+abbrev pub base_rule : Rule
+base_rule = flag_rule (codes "base")
+
+-- `--expect ENDING`, which may stand more than once
+abbrev pub expect_rule : Rule
+expect_rule =
+    record (new_rule (codes "expect")) {
+      long = Some (codes "expect");
+      value_names = 1;
+      action = Some Append;
+    }
+
 -- `--map`
 abbrev pub map_rule : Rule
 map_rule = flag_rule (codes "map")
@@ -171,10 +186,10 @@ with_files command = with_rule (with_rule (with_program command) (file_rule (cod
 abbrev pub run_form : App
 run_form = with_files (with_rule (with_rule (with_rule (with_rule (with_rule (new_app (codes "run")) limit_rule) explain_rule) names_rule) warn_rule) text_rule)
 
--- explore [--limit N] [--from N] [--to N] [--kills] [--deaths] [--pairs] [--tries N] [--text TEXT] [--asm] [--source] IMAGE SCRIPT [NATIVE]..
+-- explore [--limit N] [--from N] [--to N] [--kills] [--deaths] [--pairs] [--tries N] [--base] [--expect ENDING].. [--text TEXT] [--asm] [--source] IMAGE SCRIPT [NATIVE]..
 abbrev pub explore_form : App
 explore_form =
-    with_files (with_rule (with_rule (with_rule (with_rule (with_rule (with_rule (with_rule (with_rule (new_app (codes "explore")) limit_rule) from_rule) to_rule) kills_rule) deaths_rule) pairs_rule) tries_rule) text_rule)
+    with_files (with_rule (with_rule (with_rule (with_rule (with_rule (with_rule (with_rule (with_rule (with_rule (with_rule (new_app (codes "explore")) limit_rule) from_rule) to_rule) kills_rule) deaths_rule) pairs_rule) tries_rule) base_rule) expect_rule) text_rule)
 
 -- debug [--limit N] [--prompt] [--text TEXT] [--asm] [--source] IMAGE SCRIPT [NATIVE]..
 abbrev pub debug_form : App
@@ -237,6 +252,21 @@ abbrev pub DeclinesNatives : Option (List Text) → WordsFault → Type 0
 DeclinesNatives words (faults.Text text) = ⊥
 DeclinesNatives words faults.Native = NamesNoKinds words
 DeclinesNatives words faults.Memory = Unit {0}
+
+-- the words, if there are any, say these endings, in their order
+abbrev pub SaysEndings : Option (List Text) → List ExpectedEnding → Type 0
+SaysEndings words expected = map expected_said (unwrap_or words []) ≡ map (λ one. Some one) expected
+
+-- one of the words says no ending
+abbrev pub SaysNoEnding : Option (List Text) → Type 0
+SaysNoEnding None = ⊥
+SaysNoEnding (Some words) = (word : Text) × Contains words word × (expected_said word ≡ None)
+
+-- why words for endings are refused
+abbrev pub DeclinesEndings : Option (List Text) → WordsFault → Type 0
+DeclinesEndings words (faults.Text text) = SaysNoEnding words
+DeclinesEndings words faults.Native = ⊥
+DeclinesEndings words faults.Memory = Unit {0}
 
 -- the file is an assembly text
 abbrev pub is_assembly : FileKind → Bool
@@ -373,7 +403,9 @@ Asks (Some met) (Check image kind prices explain lines all warn text) =
 Asks (Some met) (Run run explain names warn text) =
     (met.0 ≡ codes "run") × AsksRun met.1 run × IsFlag (one_of (codes "explain") met.1) explain
     × AsksNames met.1 run.kind names × AsksWarnings met.1 run.kind warn × AsksText met.1 ((explain || names) || warn) run.kind text
-Asks (Some met) (Explore run tries text) = (met.0 ≡ codes "explore") × AsksRun met.1 run × AsksTries met.1 tries × AsksText met.1 true run.kind text
+Asks (Some met) (Explore run tries base expected text) =
+    (met.0 ≡ codes "explore") × AsksRun met.1 run × AsksTries met.1 tries
+    × IsFlag (one_of (codes "base") met.1) base × SaysEndings (all_of (codes "expect") met.1) expected.items × AsksText met.1 true run.kind text
 Asks (Some met) (Debug run prompt text) = (met.0 ≡ codes "debug") × AsksRun met.1 run × IsFlag (one_of (codes "prompt") met.1) prompt × AsksText met.1 true run.kind text
 Asks (Some met) (Asm text explain) = (met.0 ≡ codes "asm") × (string_bytes text ≡ word_of (codes "TEXT") met.1) × IsFlag (one_of (codes "explain") met.1) explain
 Asks (Some met) (Dis image source) = (met.0 ≡ codes "dis") × (string_bytes image ≡ word_of (codes "IMAGE") met.1) × IsFlag (one_of (codes "source") met.1) source
@@ -403,9 +435,14 @@ HasNoUseForText (Some met) =
     ⊎ ((met.0 ≡ codes "run") × (SaysTwoKinds met.1 ⊎ LacksUse (codes "explain" ∷ codes "names" ∷ codes "warn" ∷ []) met.1 ⊎ NamesTwoTexts met.1 ⊎ LacksText (codes "names") met.1 ⊎ WarnsOfSource met.1))
     ⊎ (((met.0 ≡ codes "explore") ⊎ (met.0 ≡ codes "debug") ⊎ (met.0 ≡ codes "dot")) × (SaysTwoKinds met.1 ⊎ NamesTwoTexts met.1))
 
--- why words ask nothing: `clap` does not take them, or they do not fit together, or they do not name natives where they should, or memory is wanting
+-- it is `explore`, with a word that says no ending
+abbrev pub ExpectsNoEnding : Option (Text × List Row) → Type 0
+ExpectsNoEnding None = ⊥
+ExpectsNoEnding (Some met) = (met.0 ≡ codes "explore") × SaysNoEnding (all_of (codes "expect") met.1)
+
+-- why words ask nothing: `clap` does not take them, or they do not fit together, or one says no ending, or they do not name natives where they should, or memory is wanting
 abbrev pub Declines : Bool → Option (Text × List Row) → WordsFault → Type 0
-Declines taken met (faults.Text text) = taken ≡ true → IsCommand met → HasNoUseForText met
+Declines taken met (faults.Text text) = taken ≡ true → IsCommand met → HasNoUseForText met ⊎ ExpectsNoEnding met
 Declines taken met faults.Native = NamesNoNatives met
 Declines taken met faults.Memory = Unit {0}
 
@@ -423,7 +460,7 @@ Says kind faults.Memory = Unit {0}
 abbrev pub KeepsLimit : Words → Type 0
 KeepsLimit (Check image kind prices explain lines all warn text) = Unit {0}
 KeepsLimit (Run run explain names warn text) = (1 ≤ run.limit) × (run.limit ≤ 1000000000)
-KeepsLimit (Explore run tries text) = (1 ≤ run.limit) × (run.limit ≤ 1000000000)
+KeepsLimit (Explore run tries base expected text) = (1 ≤ run.limit) × (run.limit ≤ 1000000000)
 KeepsLimit (Debug run prompt text) = (1 ≤ run.limit) × (run.limit ≤ 1000000000)
 KeepsLimit (Asm text explain) = Unit {0}
 KeepsLimit (Dis image source) = Unit {0}

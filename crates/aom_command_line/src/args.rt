@@ -1,7 +1,7 @@
 //! The arguments of commands.
 ghost use Rattle.std.specs.Prelude.{◌≡◌, false};
 ghost use Rattle.clap.specs.Words.{rule_of};
-ghost use Rattle.aom_command_line.specs.CommandLine.{all_rule, asm_rule, deaths_rule, explain_rule, file_rule, flag_rule, from_rule, kills_rule, limit_rule, lines_rule, map_rule, names_rule, native_rule, number_rule, pairs_rule, prices_rule, prompt_rule, source_rule, text_rule, to_rule, tries_rule, warn_rule};
+ghost use Rattle.aom_command_line.specs.CommandLine.{all_rule, asm_rule, base_rule, deaths_rule, expect_rule, explain_rule, file_rule, flag_rule, from_rule, kills_rule, limit_rule, lines_rule, map_rule, names_rule, native_rule, number_rule, pairs_rule, prices_rule, prompt_rule, source_rule, text_rule, to_rule, tries_rule, warn_rule};
 
 use clap::builder::ValueParser;
 use clap::{Arg, ArgAction, value_parser};
@@ -231,6 +231,30 @@ pub fn pairs_arg<'a>(alloc: Global) -> Arg<'a>
         "pairs",
         "Also refuses two requests for memory in one run, each pair in turn",
     )
+}
+
+pub fn base_arg<'a>(alloc: Global) -> Arg<'a>
+    ensures rule { rule_of result ≡ base_rule }
+    ensures own { result.global ≡ false }
+{
+    flag_arg(
+        alloc,
+        "base",
+        "Also tells how the run as it is ends, before all others",
+    )
+}
+
+pub fn expect_arg<'a>(alloc: Global) -> Arg<'a>
+    ensures rule { rule_of result ≡ expect_rule }
+    ensures own { result.global ≡ false }
+{
+    Arg::new(alloc, "expect")
+        .long("expect")
+        .value_name("ENDING")
+        .help(
+            "An end that is expected: stopped, waiting, left, limit, error, or a last line's words; runs that end otherwise are marked and counted",
+        )
+        .action(ArgAction::Append)
 }
 
 pub fn map_arg<'a>(alloc: Global) -> Arg<'a>

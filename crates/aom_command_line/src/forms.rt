@@ -4,9 +4,9 @@ ghost use Rattle.clap.specs.Words.{AddsArg, AddsSubcommand, App, app_of, with_su
 ghost use Rattle.aom_command_line.specs.CommandLine.{HasForm, asm_form, check_form, compile_form, debug_form, dis_form, dot_form, explore_form, form, lsp_form, run_form, show_form, with_files, with_program};
 
 use crate::args::{
-    all_arg, asm_arg, deaths_arg, explain_arg, file_arg, from_arg, kills_arg, limit_arg, lines_arg,
-    map_arg, names_arg, native_arg, pairs_arg, prices_arg, prompt_arg, source_arg, text_arg,
-    to_arg, tries_arg, warn_arg,
+    all_arg, asm_arg, base_arg, deaths_arg, expect_arg, explain_arg, file_arg, from_arg, kills_arg,
+    limit_arg, lines_arg, map_arg, names_arg, native_arg, pairs_arg, prices_arg, prompt_arg,
+    source_arg, text_arg, to_arg, tries_arg, warn_arg,
 };
 use clap::{Arg, Command};
 use std::alloc::{AllocError, Global};
@@ -245,6 +245,8 @@ fn explore_command<'a>(alloc: Global) -> Result<Command<'a>, AllocError>
     let command = with_arg(command, deaths_arg(alloc));
     let command = with_arg(command, pairs_arg(alloc));
     let command = with_arg(command, tries_arg(alloc));
+    let command = with_arg(command, base_arg(alloc));
+    let command = with_arg(command, expect_arg(alloc));
     let command = with_arg(command, text_arg(alloc));
     with_files(alloc, command)
 }

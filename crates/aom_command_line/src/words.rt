@@ -2,9 +2,10 @@
 ghost use Rattle.std.specs.Prelude.{◌≡◌, ◌≢◌, ◌≤◌, ◌⊎◌, IfOk, IfErr, None, Some, false, true, codes, length};
 ghost use Rattle.std.specs.String.{string_bytes};
 ghost use Rattle.clap.specs.Words.{all_of, first_of, found_of, kind_of, one_of, rows_of, subcommand_of, subcommand_rows_of, takes};
-ghost use Rattle.aom_command_line.specs.CommandLine.{form, texts_of, word_of, Asks, AsksKind, AsksLines, AsksNames, AsksRun, AsksText, AsksTries, AsksWarnings, Declines, DeclinesKind, DeclinesLines, DeclinesNatives, DeclinesRun, DeclinesText, DeclinesTextless, DeclinesWarnings, IsFlag, IsNumberUpTo, KeepsLimit, NamesKinds, Says, is_assembly, is_image, is_source, texts_in};
+ghost use Rattle.aom_command_line.specs.CommandLine.{form, texts_of, word_of, Asks, AsksKind, AsksLines, AsksNames, AsksRun, AsksText, AsksTries, AsksWarnings, Declines, DeclinesEndings, DeclinesKind, DeclinesLines, DeclinesNatives, DeclinesRun, DeclinesText, DeclinesTextless, DeclinesWarnings, IsFlag, IsNumberUpTo, KeepsLimit, NamesKinds, Says, SaysEndings, is_assembly, is_image, is_source, texts_in};
 
 use crate::forms::aom_command;
+use aom_fault_injection::ExpectedEnding;
 use aom_natives::NativeKind;
 use clap::error::ErrorKind;
 use clap::{ArgMatches, Error};
@@ -74,6 +75,10 @@ pub enum Words {
     Explore {
         run: RunWords,
         tries: TriesWords,
+        /// Whether the run as it is is told too.
+        base: bool,
+        /// How runs are expected to end. Where there is nothing, none is judged.
+        expected: Vec<ExpectedEnding>,
         /// The text that the image is of.
         text: Option<String>,
     },
@@ -118,7 +123,7 @@ pub enum Words {
 /// Why a command line is refused.
 #[derive(Debug, Drop, FaultText)]
 pub enum WordsFault {
-    /// What `clap` has to say, a fault, or the help or the version that was asked for; or that `--text`, `--asm`, `--source`, `--explain`, `--lines` and `--names` do not fit together.
+    /// What `clap` has to say, a fault, or the help or the version that was asked for; or that `--text`, `--asm`, `--source`, `--explain`, `--lines` and `--names` do not fit together; or that a word behind `--expect` says no ending.
     #[error("{0}")]
     Text(String),
     /// No native of that name, or one too many.
@@ -438,11 +443,47 @@ fn explore_words(alloc: Global, own: &ArgMatches) -> Result<Words, WordsFault>
     ensures declines { IfErr result (λ fault. Declines true (Some (codes "explore", rows_of (found_of own.now))) fault) }
 {
     let kind = file_kind_of(alloc, own)?;
+    let expected = expected_of(alloc, own)?;
     Ok(Words::Explore {
         text: text_of(alloc, own, true, kind)?,
         run: run_words(alloc, own, kind)?,
         tries: tries_words(own),
+        base: is_set(own, "base"),
+        expected,
     })
+}
+
+/// How the words expect that runs end.
+fn expected_of(alloc: Global, own: &ArgMatches) -> Result<Vec<ExpectedEnding>, WordsFault>
+    ensures said { IfOk result (λ expected. SaysEndings (all_of (codes "expect") (rows_of (found_of own.now))) expected.items) }
+    ensures declines { IfErr result (λ fault. DeclinesEndings (all_of (codes "expect") (rows_of (found_of own.now))) fault) }
+{
+    let Some(words) = own.get_strs("expect") else {
+        return Ok(Vec::new(alloc));
+    };
+    endings_of(alloc, words)
+}
+
+/// The endings that words say.
+fn endings_of(alloc: Global, words: &[&str]) -> Result<Vec<ExpectedEnding>, WordsFault>
+    ensures said { IfOk result (λ expected. SaysEndings (Some (texts_in words.now)) expected.items) }
+    ensures declines { IfErr result (λ fault. DeclinesEndings (Some (texts_in words.now)) fault) }
+{
+    let mut expected = Vec::new(alloc);
+    for word in words {
+        match ExpectedEnding::of_words(word.as_bytes()) {
+            Some(ending) => expected.push(ending)?,
+            None => return Err(WordsFault::Text(no_ending(alloc, word)?)),
+        }
+    }
+    Ok(expected)
+}
+
+/// What is told of a word that says no ending.
+fn no_ending(alloc: Global, word: &str) -> Result<String, AllocError> {
+    format!(in alloc;
+        "error: invalid value '{word}' for '--expect <ENDING>': it takes stopped, waiting, left, limit, error, or what a last line says behind end, as 'stopped cells 0'\n"
+    )
 }
 
 /// What `explore` is to try.

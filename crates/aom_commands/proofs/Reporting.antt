@@ -1,6 +1,6 @@
 -- What is known of an outcome, of a script and of the image is what the status answers.
 use Rattle.std.proofs.lemmas.Bool.Decides.{nat_tests}
-use Rattle.std.proofs.Common.{◌≡◌, ◌∙◌, Bool, List, None, Option, ℕ, Result, Ok, Err, true, false, ap, arith, pos, refl, sym, subst, inl, inr}
+use Rattle.std.proofs.Common.{◌≡◌, ◌<◌, ◌∙◌, Bool, List, None, Option, ℕ, Result, Ok, Err, true, false, zero, suc, ap, arith, pos, refl, sym, subst, inl, inr}
 use Rattle.aom_transcript.specs.declared.line.Line.{Line}
 use Rattle.aom_semantics.specs.State.{State}
 use Rattle.aom_semantics.specs.World.{Environment, Reaches, Run_of, boot_state}
@@ -38,10 +38,13 @@ use Rattle.aom_commands.specs.Headline.{Sent, outside_of, IsSilent, Reported, Sh
 use Rattle.aom_commands.specs.Headline.{EndsOrFails, HasNatives, ImageWantsMemory, IsNoScript, IsOnly, IsRefused, RefusesBoot, RunAnswersBy, RunsSafely, Shown}
 use Rattle.aom_commands.specs.Headline.{ReportsFault, Transcribed}
 use Rattle.aom_commands.proofs.MachineLemmas.{affords}
-use Rattle.aom_commands.specs.Explored.{AcceptedExplores, Begun, BreaksOff, ExploreAnswers, Explored, Plans, RefusesTry}
+use Rattle.aom_commands.specs.Explored.{AcceptedExplores, Begun, BreaksOff, ExploreAnswersOf, Explored, ExploresAll, Finished, Plans, RefusesTry, told_runs}
 use Rattle.aom_commands.specs.Explored.ExploreBreaks.{script_wants_memory as wants_for_script, machine_wants_memory as wants_for_machine, output_fails as fails}
 use Rattle.aom_fault_injection.specs.declared.injection.Injection.{Injection}
-use Rattle.aom_fault_injection.specs.declared.tries.Tries.{Tries}
+use Rattle.aom_fault_injection.specs.Expected.{Exploration, is_judged}
+use Rattle.aom_commands.specs.declared.exploring.RunEnd.{RunEnd}
+use Rattle.aom_commands.proofs.Tries.{judges}
+use Rattle.aom_commands.specs.Unreported.{Unreported}
 use Rattle.aom_commands.specs.Headline.RunBreaks.{machine_wants_memory, output_fails, script_wants_memory}
 
 -- ---- a run
@@ -174,52 +177,96 @@ unscripted reads bytes text limit natives fault line out errors status accepts r
 -- ---- runs into which faults are injected
 
 -- nothing was tried yet
-pub begin_refused : (p : Image) (script : Script) (limit natives : ℕ) (tries : Tries) (sent : Sent) (fault : Fault) →
-    IsSilent sent → RefusesTry p natives fault → BreaksOff p script limit natives tries sent fault
-begin_refused p script limit natives tries sent x silent few = grind arith
+pub begin_refused : (p : Image) (script : Script) (limit natives : ℕ) (asked : Exploration) (sent : Sent) (fault : Fault) →
+    IsSilent sent → RefusesTry p natives fault → BreaksOff p script limit natives asked sent fault
+begin_refused p script limit natives asked sent x silent few = grind arith
 
--- some of what is planned was tried
-pub stopped_there : (p : Image) (script : Script) (limit natives : ℕ) (tries : Tries)
-    (injections given : List Injection) (left : Option Injection) (sent : Sent) (fault other : Fault) → Plans p script limit natives tries injections left
-    → given ≡ injections → fault ≡ other → other ≡ faults.Memory → Begun p script limit natives given sent → BreaksOff p script limit natives tries sent fault
-stopped_there p script limit natives tries injections given left sent fault other plans same is memory begun = grind arith
+-- nothing went out, or some of what is planned was tried
+pub stopped_there : (p : Image) (script : Script) (limit natives : ℕ) (asked : Exploration) (plain : RunEnd)
+    (injections given : List Injection) (left : Option Injection) (sent : Sent) (fault other : Fault) →
+    Plans p script limit natives asked.tries plain injections left → given ≡ injections → fault ≡ other → other ≡ faults.Memory →
+    IsSilent sent ⊎ Begun p script limit natives asked plain given sent → BreaksOff p script limit natives asked sent fault
+stopped_there p script limit natives asked plain injections given left sent fault other plans same is memory (inl silent) =
+    subst (BreaksOff p script limit natives asked sent) (sym (is ∙ memory)) (inl silent)
+stopped_there p script limit natives asked plain injections given left sent fault other plans same is memory (inr begun) =
+    let there : Begun p script limit natives asked plain injections sent = subst (λ xs. Begun p script limit natives asked plain xs sent) same begun in
+    subst (BreaksOff p script limit natives asked sent) (sym (is ∙ memory)) (inr (plain, injections, left, plans, there))
+
+-- where a run that is told has not ended as expected, ends are judged
+judged_so : (p : Image) (script : Script) (limit natives : ℕ) (asked : Exploration) (unexpected : ℕ) (sent : Sent) →
+    Explored p script limit natives asked unexpected sent → sent.failed ≡ false → 0 < unexpected → is_judged asked.expected ≡ true
+judged_so p script limit natives asked unexpected sent explored lives some = go explored.ends
+  where
+    go : Finished p script limit natives asked explored.plain explored.injections explored.left unexpected sent
+        ⊎ ((sent.failed ≡ true) × Begun p script limit natives asked explored.plain explored.injections sent) → is_judged asked.expected ≡ true
+    go (inl finished) = judges asked.expected (told_runs asked explored.plain finished.lasts) (subst (λ n. 0 < n) finished.judged some)
+    go (inr cut) = let failed = cut.0 in absurd cc
 
 module _ (bytes text : List ℕ) (limit natives : ℕ) (p : Image) (script : Script) (acceptable : IsAcceptable p)
-    (well : AllRunWell p) (serialized : IsSerialized bytes p) (denotes : denoted text ≡ Ok script) (tries : Tries) (out errors : Sent) where
+    (well : AllRunWell p) (serialized : IsSerialized bytes p) (denotes : denoted text ≡ Ok script) (asked : Exploration) (out errors : Sent) where
   abbrev of_them : RunsSafely bytes text limit natives
   of_them = runs_of bytes text limit natives p script acceptable well serialized denotes
 
   -- one of them was not made, and that is told
   pub broken_off : (fault : Fault) (status : ExitStatus) →
-      BreaksOff p script limit natives tries out fault → Reported fault status errors → AcceptedExplores bytes text limit natives tries out errors status
+      BreaksOff p script limit natives asked out fault → Reported fault status errors → AcceptedExplores bytes text limit natives asked out errors status
   broken_off (faults.Boot boots.TooFewNatives) status off reported =
       let accepts : Accepts bytes = record { image = p; serialized = serialized; acceptable = acceptable } in
-      subst (AcceptedExplores bytes text limit natives tries out errors)
+      subst (AcceptedExplores bytes text limit natives asked out errors)
       (sym reported.0) (inr (record { silent = off.1; accepts = accepts; script = script; denotes = denotes; few = off.0; reports = reported.1 }))
-  broken_off faults.Memory status off reported = subst (AcceptedExplores bytes text limit natives tries out errors) (sym reported.0) (wants_for_machine of_them off reported.1)
+  broken_off faults.Memory status off reported = subst (AcceptedExplores bytes text limit natives asked out errors) (sym reported.0) (wants_for_machine of_them off reported.1)
   broken_off _ status off reported = absurd off
 
   -- the output failed
-  pub cut_off : (status : ExitStatus) → HasNatives p natives → Explored p script limit natives tries out →
-      out.failed ≡ true → Reported faults.Write status errors → AcceptedExplores bytes text limit natives tries out errors status
-  cut_off status enough explored failed reported =
-      subst (AcceptedExplores bytes text limit natives tries out errors) (sym reported.0) (fails of_them enough explored failed reported.1)
+  pub cut_off : (status : ExitStatus) (unexpected : ℕ) → HasNatives p natives → Explored p script limit natives asked unexpected out →
+      out.failed ≡ true → Reported faults.Write status errors → AcceptedExplores bytes text limit natives asked out errors status
+  cut_off status unexpected enough explored failed reported =
+      subst (AcceptedExplores bytes text limit natives asked out errors) (sym reported.0) (fails of_them enough unexpected explored failed reported.1)
 
-  pub explored : HasNatives p natives → Explored p script limit natives tries out → out.failed ≡ false → IsSilent errors →
-      AcceptedExplores bytes text limit natives tries out errors statuses.Done
-  explored enough all lives silent = (of_them, enough, all, lives, silent)
+  explores_all : (unexpected : ℕ) → HasNatives p natives → Explored p script limit natives asked unexpected out → out.failed ≡ false → IsSilent errors →
+      ExploresAll bytes text limit natives asked out errors unexpected
+  explores_all unexpected enough all lives silent = record { runs = of_them; enough = enough; explored = all; lives = lives; silent = silent }
 
-pub untried : (bytes text : List ℕ) (limit natives : ℕ) (tries : Tries) (fault : ScriptFault) (line : Fault) (out errors : Sent) (status : ExitStatus) →
+  pub explored : (unexpected : ℕ) → HasNatives p natives → Explored p script limit natives asked unexpected out → out.failed ≡ false → unexpected ≡ 0 →
+      IsSilent errors → AcceptedExplores bytes text limit natives asked out errors statuses.Done
+  explored unexpected enough all lives none silent =
+      explores_all 0 enough (subst (λ n. Explored p script limit natives asked n out) none all) lives silent
+
+  pub explored_otherwise : (unexpected : ℕ) → HasNatives p natives → Explored p script limit natives asked unexpected out → out.failed ≡ false →
+      0 < unexpected → IsSilent errors → AcceptedExplores bytes text limit natives asked out errors statuses.Unfinished
+  explored_otherwise unexpected enough all lives some silent =
+      (judged_so p script limit natives asked unexpected out all lives some, (unexpected, some, explores_all unexpected enough all lives silent))
+
+-- what a call has come to whose runs were told, or whose output failed
+pub told_so : (bytes text : List ℕ) (limit natives : ℕ) (p : Image) (script : Script) → IsAcceptable p → AllRunWell p → IsSerialized bytes p →
+    denoted text ≡ Ok script → (asked : Exploration) (out : Sent) (unexpected : ℕ) (found : Result ExitStatus Fault) → HasNatives p natives →
+    Explored p script limit natives asked unexpected out → (out.failed ≡ true → found ≡ Err faults.Write) →
+    (out.failed ≡ false → unexpected ≡ 0 → found ≡ Ok statuses.Done) → (out.failed ≡ false → 0 < unexpected → found ≡ Ok statuses.Unfinished) →
+    Unreported (AcceptedExplores bytes text limit natives asked out) found
+told_so bytes text limit natives p script acceptable well serialized denotes asked out unexpected found enough all failing none some =
+    go out.failed unexpected refl refl
+  where
+    go : (failed : Bool) (n : ℕ) → out.failed ≡ failed → unexpected ≡ n → Unreported (AcceptedExplores bytes text limit natives asked out) found
+    go true n is same = subst (Unreported (AcceptedExplores bytes text limit natives asked out)) (sym (failing is))
+        (λ errors status reported. cut_off bytes text limit natives p script acceptable well serialized denotes asked out errors status unexpected enough all is reported)
+    go false zero is same = subst (Unreported (AcceptedExplores bytes text limit natives asked out)) (sym (none is same))
+        (λ errors silent. explored bytes text limit natives p script acceptable well serialized denotes asked out errors unexpected enough all is same silent)
+    go false (suc n) is same =
+        let more : 0 < unexpected = omega (arith, same) in
+        subst (Unreported (AcceptedExplores bytes text limit natives asked out)) (sym (some is more))
+        (λ errors silent. explored_otherwise bytes text limit natives p script acceptable well serialized denotes asked out errors unexpected enough all is more silent)
+
+pub untried : (bytes text : List ℕ) (limit natives : ℕ) (asked : Exploration) (fault : ScriptFault) (line : Fault) (out errors : Sent) (status : ExitStatus) →
     Accepts bytes → RefusesOrWants text fault → IsSilent out
-    → line ≡ of_script fault → Reported line status errors → AcceptedExplores bytes text limit natives tries out errors status
-untried bytes text limit natives tries fault line out errors status accepts refuses silent is reported = unread (AcceptedExplores bytes
-    text limit natives tries out errors) bytes text fault line out errors status accepts refuses silent is reported inl (wants_for_script silent accepts fault)
+    → line ≡ of_script fault → Reported line status errors → AcceptedExplores bytes text limit natives asked out errors status
+untried bytes text limit natives asked fault line out errors status accepts refuses silent is reported = unread (AcceptedExplores bytes
+    text limit natives asked out errors) bytes text fault line out errors status accepts refuses silent is reported inl (wants_for_script silent accepts fault)
 
-pub explores : (bytes text : List ℕ) (limit natives : ℕ) (tries : Tries) (out errors : Sent) (status : ExitStatus) →
-    AcceptedExplores bytes text limit natives tries out errors status → ExploreAnswers bytes text limit natives tries out errors status
-explores bytes text limit natives tries out errors statuses.ImageRefused a = absurd a
-explores bytes text limit natives tries out errors statuses.Fault a = inr a
-explores bytes text limit natives tries out errors _ a = a
+pub explores : (bytes text : List ℕ) (limit natives : ℕ) (asked : Exploration) (out errors : Sent) (status : ExitStatus) →
+    AcceptedExplores bytes text limit natives asked out errors status → ExploreAnswersOf bytes text limit natives asked out errors status
+explores bytes text limit natives asked out errors statuses.ImageRefused a = absurd a
+explores bytes text limit natives asked out errors statuses.Fault a = inr a
+explores bytes text limit natives asked out errors _ a = a
 
 -- ---- bytes that are no accepted image
 

@@ -1,16 +1,19 @@
 //! Runs of an image which something befalls, each by its last line.
-ghost use Rattle.std.specs.Prelude.{ℕ, ◌≡◌, ◌≤◌, All, List, IfOk, IfErr, IfSome, Ok, false, length, true};
+ghost use Rattle.std.specs.Prelude.{ℕ, ◌≡◌, ◌≤◌, ◌<◌, ◌+◌, ◌-◌, ◌^◌, ◌⊎◌, All, List, [], ◌∷◌, ◌++◌, IfOk, IfErr, IfSome, Ok, Err, codes, cond, false, length, take, true};
 ghost use Rattle.aom_natives.specs.Slots.{AllAgree};
 ghost use Rattle.aom_run.specs.Calls.{natives_of};
 ghost use Rattle.aom_run.specs.Outcomes.{outcome_of};
 ghost use Rattle.aom_transcript.specs.Sinks.{after};
+ghost use Rattle.aom_transcript.specs.Text.{ended};
 ghost use Rattle.aom_script.specs.Script.{IsTimely, denoted};
 ghost use Rattle.aom_fault_injection.specs.Injections.{CanInject, injected};
+ghost use Rattle.aom_fault_injection.specs.Expected.{exploration_of, is_unexpected};
+ghost use Rattle.aom_fault_injection.specs.OutcomeTables.{counted, nothing_counted};
 ghost use Rattle.aom_fault_injection.specs.Planned.{AreTimes};
 ghost use Rattle.aom_commands.specs.Acceptable.{IsSerialized};
 ghost use Rattle.aom_commands.specs.Beside.{AllNew, AreNew};
-ghost use Rattle.aom_commands.specs.Explored.{AcceptedExplores, Begun, BreaksOff, ExploreAnswers, Explored, HasPlain, IsLast, Plans, RefusesTry, Tried, TriesAll, closing, kept_text, tried_line};
-ghost use Rattle.aom_commands.specs.Headline.{HasNatives, IsFreshOf, RefusesBoot, Says, outside_of, over};
+ghost use Rattle.aom_commands.specs.Explored.{AcceptedExplores, Begun, BreaksOff, ExploreAnswers, ExploreAnswersOf, Explored, HasPlain, IsLast, Plans, RefusesTry, Tried, TriesAll, base_line, closing, judged_count, kept_text, outcomes_of, run_line, told_runs, unexpected_among};
+ghost use Rattle.aom_commands.specs.Headline.{HasNatives, IsFreshOf, IsSilent, RefusesBoot, Says, outside_of, over};
 ghost use Rattle.aom_commands.specs.Unreported.{Unreported};
 
 use crate::accepting::accept_bytes;
@@ -19,7 +22,10 @@ use crate::faults::answer;
 use crate::running::{booted, runs_well};
 use crate::{ExitStatus, Fault, report};
 use aom_budget::Accepted;
-use aom_fault_injection::{Injection, OutcomeCounts, Plan, Tries, times_of};
+use aom_fault_injection::{
+    ExpectedEnding, ExploreOptions, Injection, OutcomeCounts, Plan, Tries, is_unexpected, mark_of,
+    times_of,
+};
 use aom_natives::{Counter, Delay, Line, Native, NativeKind};
 use aom_run::{HostedMachine, Outcome, line_buffer, run};
 use aom_script::{Script, read_script};
@@ -34,11 +40,68 @@ struct RunEnd {
     requests: u64,
 }
 
-/// How many requests a run makes, and when it does something, where that is asked.
+/// How the run as it is ended, and when it did something, where that is asked.
 #[derive(Drop)]
 struct Plain {
-    requests: u64,
+    last: RunEnd,
     times: Vec<u64>,
+}
+
+/// What is tried, and how the run ended by which that is planned.
+#[derive(Drop)]
+struct Planned {
+    plain: RunEnd,
+    plan: Plan,
+}
+
+/// How the runs that are told ended: in which ways, and how many of them not as expected.
+#[derive(Drop)]
+struct Told {
+    outcome_counts: OutcomeCounts,
+    unexpected: usize,
+}
+
+impl Told {
+    fn new() -> Told
+        ensures counts { result.outcome_counts ≡ nothing_counted }
+        ensures unexpected { result.unexpected ≡ 0 }
+    {
+        Told {
+            outcome_counts: OutcomeCounts::new(),
+            unexpected: 0,
+        }
+    }
+
+    /// Counts a run that ended so.
+    fn count(&mut self, last: RunEnd, expected: &[ExpectedEnding])
+        requires many { self.old.outcome_counts.tries < 2 ^ 64 - 1 }
+        requires few { self.old.unexpected ≤ self.old.outcome_counts.tries }
+        ensures counts { self.new.outcome_counts ≡ counted self.old.outcome_counts last.ending }
+        ensures unexpected { self.new.unexpected ≡ self.old.unexpected + cond (is_unexpected expected.now last.ending last.cells) 1 0 }
+    {
+        self.outcome_counts.count(last.ending);
+        let is_unexpected = is_unexpected(expected, last.ending, last.cells);
+        self.unexpected = add_one_if(self.unexpected, is_unexpected);
+    }
+
+    /// How many runs did not end as expected, where ends are judged.
+    fn judged(&self, options: ExploreOptions<'_>) -> Option<usize>
+        ensures { result ≡ judged_count options.entry.expected.now self.now.unexpected }
+    {
+        if options.judges() {
+            Some(self.unexpected)
+        } else {
+            None
+        }
+    }
+}
+
+/// One more, if that is so.
+fn add_one_if(count: usize, is_so: bool) -> usize
+    requires { count < 2 ^ 64 - 1 }
+    ensures { result ≡ count + cond is_so 1 0 }
+{
+    if is_so { count + 1 } else { count }
 }
 
 /// How a run ended, unless memory was wanting for what is kept of it.
@@ -134,7 +197,7 @@ fn last_of(alloc: Global, trial: &Trial<'_>, kept: &mut CollectingSink) -> Resul
 fn plain_of(alloc: Global, trial: &Trial<'_>, marks: bool) -> Result<Plain, Fault>
     requires limit { (1 ≤ trial.now.limit) × (trial.now.limit ≤ 1000000000) }
     requires timely { IsTimely trial.now.script.now.timed }
-    ensures ok { IfOk result (λ plain. HasPlain trial.now.accepted.now (outside_of trial.now.script.now trial.now.limit (length trial.now.kinds.now)) marks plain.requests plain.times.items) }
+    ensures ok { IfOk result (λ plain. HasPlain trial.now.accepted.now (outside_of trial.now.script.now trial.now.limit (length trial.now.kinds.now)) marks plain.last plain.times.items) }
     ensures times { IfOk result (λ plain. AreTimes plain.times.items) }
     ensures enough { IfOk result (λ _. HasNatives trial.now.accepted.now (length trial.now.kinds.now)) }
     ensures err { IfErr result (λ fault. RefusesTry trial.now.accepted.now (length trial.now.kinds.now) fault) }
@@ -142,18 +205,15 @@ fn plain_of(alloc: Global, trial: &Trial<'_>, marks: bool) -> Result<Plain, Faul
     let mut kept = CollectingSink::new(alloc, marks);
     let last = last_of(alloc, trial, &mut kept)?;
     let times = times_of(alloc, kept.text.as_slice())?;
-    Ok(Plain {
-        requests: last.requests,
-        times,
-    })
+    Ok(Plain { last, times })
 }
 
 /// What is tried, by what the run does as it is.
-fn plan_of(alloc: Global, trial: &Trial<'_>, tries: Tries) -> Result<Plan, Fault>
+fn plan_of(alloc: Global, trial: &Trial<'_>, tries: Tries) -> Result<Planned, Fault>
     requires limit { (1 ≤ trial.now.limit) × (trial.now.limit ≤ 1000000000) }
     requires timely { IsTimely trial.now.script.now.timed }
-    ensures ok { IfOk result (λ plan. Plans trial.now.accepted.now trial.now.script.now trial.now.limit (length trial.now.kinds.now) tries plan.injections.items plan.left) }
-    ensures can { IfOk result (λ plan. All CanInject plan.injections.items) }
+    ensures ok { IfOk result (λ planned. Plans trial.now.accepted.now trial.now.script.now trial.now.limit (length trial.now.kinds.now) tries planned.plain planned.plan.injections.items planned.plan.left) }
+    ensures can { IfOk result (λ planned. All CanInject planned.plan.injections.items) }
     ensures enough { IfOk result (λ _. HasNatives trial.now.accepted.now (length trial.now.kinds.now)) }
     ensures err { IfErr result (λ fault. RefusesTry trial.now.accepted.now (length trial.now.kinds.now) fault) }
 {
@@ -164,10 +224,13 @@ fn plan_of(alloc: Global, trial: &Trial<'_>, tries: Tries) -> Result<Plan, Fault
         tries,
         natives,
         trial.script,
-        plain.requests,
+        plain.last.requests,
         plain.times.as_slice(),
     )?;
-    Ok(plan)
+    Ok(Planned {
+        plain: plain.last,
+        plan,
+    })
 }
 
 /// Runs the image under the script that says what befalls it too.
@@ -189,22 +252,79 @@ fn last_injected(alloc: Global, trial: &Trial<'_>, injection: Injection) -> Resu
     last_of(alloc, &given, &mut CollectingSink::new(alloc, false))
 }
 
-/// The line of a try.
+/// The line of a run: what befell it, how it ended, and a mark where that is not expected.
 fn line_of(
     alloc: Global,
-    injection: Injection,
-    ending: Ending,
-    cells: usize,
+    words: &[u8],
+    last: RunEnd,
+    expected: &[ExpectedEnding],
 ) -> Result<Vec<u8>, AllocError>
-    ensures { IfOk result (λ line. line.items ≡ tried_line injection ending cells) }
+    ensures { IfOk result (λ line. line.items ≡ run_line expected.now words.now last) }
 {
-    let mut words = injection.text();
-    words.add(b" ");
     let mut page = Page::new();
-    page.add_end(ending, cells);
-    let mut line = Vec::from_slice(alloc, words.as_bytes())?;
-    line.extend_from_slice(page.as_bytes())?;
+    page.add_end(last.ending, last.cells);
+    let end = without_feed(page.as_bytes());
+    let mark = mark_of(expected, last.ending, last.cells);
+    join_line(alloc, words, end, mark)
+}
+
+/// A line without its line feed.
+fn without_feed(line: &[u8]) -> &[u8]
+    requires { 1 ≤ length line.now }
+    ensures { result.now ≡ take (length line.now - 1) line.now }
+{
+    &line[..line.len() - 1]
+}
+
+/// The line of these parts.
+fn join_line(alloc: Global, words: &[u8], end: &[u8], mark: &[u8]) -> Result<Vec<u8>, AllocError>
+    ensures { IfOk result (λ line. line.items ≡ ended (words.now ++ codes " " ++ end.now ++ mark.now)) }
+{
+    let mut line = Vec::from_slice(alloc, words)?;
+    line.extend_from_slice(b" ")?;
+    line.extend_from_slice(end)?;
+    line.extend_from_slice(mark)?;
+    line.extend_from_slice(b"\n")?;
     Ok(line)
+}
+
+/// Tells how the run as it is ended, and counts it.
+fn tell_base<W: Sink>(
+    alloc: Global,
+    expected: &[ExpectedEnding],
+    plain: RunEnd,
+    out: &mut W,
+) -> Result<Told, AllocError>
+    ensures says { IfOk result (λ _. Says (run_line expected.now (codes "as it is") plain) (over W.out W.failed out.old out.new)) }
+    ensures counts { IfOk result (λ told. told.outcome_counts ≡ outcomes_of (plain ∷ [])) }
+    ensures unexpected { IfOk result (λ told. told.unexpected ≡ unexpected_among expected.now (plain ∷ [])) }
+    ensures err { IfErr result (λ _. (W.out out.new ≡ W.out out.old) × (W.failed out.new ≡ W.failed out.old)) }
+{
+    let line = line_of(alloc, b"as it is", plain, expected)?;
+    write_text(out, line.as_slice());
+    let mut told = Told::new();
+    told.count(plain, expected);
+    Ok(told)
+}
+
+/// Tells how the run as it is ended, where that is asked, and begins to count.
+fn begin<W: Sink>(
+    alloc: Global,
+    options: ExploreOptions<'_>,
+    plain: RunEnd,
+    out: &mut W,
+) -> Result<Told, AllocError>
+    ensures says { IfOk result (λ _. Says (base_line (exploration_of options.entry) plain) (over W.out W.failed out.old out.new)) }
+    ensures counts { IfOk result (λ told. told.outcome_counts ≡ outcomes_of (told_runs (exploration_of options.entry) plain [])) }
+    ensures unexpected { IfOk result (λ told. told.unexpected ≡ unexpected_among options.entry.expected.now (told_runs (exploration_of options.entry) plain [])) }
+    ensures err { IfErr result (λ _. (W.out out.new ≡ W.out out.old) × (W.failed out.new ≡ W.failed out.old)) }
+{
+    let base = options.base;
+    if base {
+        tell_base(alloc, options.expected, plain, out)
+    } else {
+        Ok(Told::new())
+    }
 }
 
 /// Runs the image with what befalls it, writes how that ended, and answers it.
@@ -212,80 +332,80 @@ fn try_one<W: Sink>(
     alloc: Global,
     trial: &Trial<'_>,
     injection: Injection,
+    expected: &[ExpectedEnding],
     out: &mut W,
-) -> Result<Ending, Fault>
+) -> Result<RunEnd, Fault>
     requires limit { (1 ≤ trial.now.limit) × (trial.now.limit ≤ 1000000000) }
     requires timely { IsTimely trial.now.script.now.timed }
     requires can { CanInject injection }
     requires enough { HasNatives trial.now.accepted.now (length trial.now.kinds.now) }
-    ensures ok { IfOk result (λ ending. (line : List ℕ) × Tried trial.now.accepted.now trial.now.script.now trial.now.limit (length trial.now.kinds.now) injection ending line × Says line (over W.out W.failed out.old out.new)) }
+    ensures ok { IfOk result (λ last. (line : List ℕ) × Tried trial.now.accepted.now trial.now.script.now trial.now.limit (length trial.now.kinds.now) expected.now injection last line × Says line (over W.out W.failed out.old out.new)) }
     ensures err { IfErr result (λ fault. (fault ≡ Fault.Memory) × (W.out out.new ≡ W.out out.old) × (W.failed out.new ≡ W.failed out.old)) }
 {
     let last = last_injected(alloc, trial, injection)?;
-    let line = line_of(alloc, injection, last.ending, last.cells)?;
+    let words = injection.text();
+    let line = line_of(alloc, words.as_bytes(), last, expected)?;
     write_text(out, line.as_slice());
-    Ok(last.ending)
+    Ok(last)
 }
 
-/// Tries each of these in turn, and counts how they end. It stops where the sink fails.
+/// Tells how the run as it is ended, where that is asked, and tries each of these in turn, and counts how they end. It stops where the sink fails.
 fn try_all<W: Sink>(
     alloc: Global,
     trial: &Trial<'_>,
+    options: ExploreOptions<'_>,
+    plain: RunEnd,
     injections: &[Injection],
     out: &mut W,
-) -> Result<OutcomeCounts, Fault>
+) -> Result<Told, Fault>
     requires limit { (1 ≤ trial.now.limit) × (trial.now.limit ≤ 1000000000) }
     requires timely { IsTimely trial.now.script.now.timed }
     requires can { All CanInject injections.now }
     requires enough { HasNatives trial.now.accepted.now (length trial.now.kinds.now) }
-    ensures ok { IfOk result (λ outcome_counts. TriesAll trial.now.accepted.now trial.now.script.now trial.now.limit (length trial.now.kinds.now) injections.now outcome_counts (over W.out W.failed out.old out.new)) }
-    ensures err { IfErr result (λ fault. (fault ≡ Fault.Memory) × Begun trial.now.accepted.now trial.now.script.now trial.now.limit (length trial.now.kinds.now) injections.now (over W.out W.failed out.old out.new)) }
+    ensures ok { IfOk result (λ told. TriesAll trial.now.accepted.now trial.now.script.now trial.now.limit (length trial.now.kinds.now) (exploration_of options.entry) plain injections.now told.outcome_counts told.unexpected (over W.out W.failed out.old out.new)) }
+    ensures err { IfErr result (λ fault. (fault ≡ Fault.Memory) × (IsSilent (over W.out W.failed out.old out.new) ⊎ Begun trial.now.accepted.now trial.now.script.now trial.now.limit (length trial.now.kinds.now) (exploration_of options.entry) plain injections.now (over W.out W.failed out.old out.new))) }
 {
-    let mut outcome_counts = OutcomeCounts::new();
+    let mut told = begin(alloc, options, plain, out)?;
     let mut place = 0;
     while place < injections.len() && !out.has_failed() {
-        let ending = try_one(alloc, trial, injections[place], out)?;
-        outcome_counts.count(ending);
+        let last = try_one(alloc, trial, injections[place], options.expected, out)?;
+        told.count(last, options.expected);
         place += 1;
     }
-    Ok(outcome_counts)
+    Ok(told)
 }
 
 /// Writes the closing lines, where they are asked for, unless the sink has failed.
-fn close<W: Sink>(
-    tries: Tries,
-    outcome_counts: &OutcomeCounts,
-    left: Option<Injection>,
-    out: &mut W,
-)
-    ensures says { W.failed out.old ≡ false → Says (closing tries left outcome_counts.now) (over W.out W.failed out.old out.new) }
+fn close<W: Sink>(options: ExploreOptions<'_>, told: &Told, left: Option<Injection>, out: &mut W)
+    ensures says { W.failed out.old ≡ false → Says (closing (exploration_of options.entry) left told.now.outcome_counts told.now.unexpected) (over W.out W.failed out.old out.new) }
     ensures stays { W.failed out.old ≡ true → (W.out out.new ≡ W.out out.old) × (W.failed out.new ≡ true) }
 {
-    if !tries.asks_more() || out.has_failed() {
+    if !options.tells_counts() || out.has_failed() {
         return;
     }
-    let closing = outcome_counts.closing(left);
+    let closing = told.outcome_counts.closing(left, told.judged(options));
     write_text(out, closing.as_bytes());
 }
 
-/// Runs the image once as it is, and then once for each of the tries. It writes a line for each, and at the end what was counted, where more than
-/// single refusals are asked for. It stops where the sink fails.
+/// Runs the image once as it is, and then once for each of the tries, and answers how many of those that are told did not end as expected. It writes a
+/// line for each try, and for the run as it is where that is asked, and at the end what was counted, where that is told. It stops where the sink fails.
 fn explore<W: Sink>(
     alloc: Global,
     trial: &Trial<'_>,
-    tries: Tries,
+    options: ExploreOptions<'_>,
     out: &mut W,
-) -> Result<(), Fault>
+) -> Result<usize, Fault>
     requires limit { (1 ≤ trial.now.limit) × (trial.now.limit ≤ 1000000000) }
     requires timely { IsTimely trial.now.script.now.timed }
-    ensures ok { IfOk result (λ _. Explored trial.now.accepted.now trial.now.script.now trial.now.limit (length trial.now.kinds.now) tries (over W.out W.failed out.old out.new)) }
+    ensures ok { IfOk result (λ unexpected. Explored trial.now.accepted.now trial.now.script.now trial.now.limit (length trial.now.kinds.now) (exploration_of options.entry) unexpected (over W.out W.failed out.old out.new)) }
     ensures enough { IfOk result (λ _. HasNatives trial.now.accepted.now (length trial.now.kinds.now)) }
-    ensures err { IfErr result (λ fault. BreaksOff trial.now.accepted.now trial.now.script.now trial.now.limit (length trial.now.kinds.now) tries (over W.out W.failed out.old out.new) fault) }
+    ensures err { IfErr result (λ fault. BreaksOff trial.now.accepted.now trial.now.script.now trial.now.limit (length trial.now.kinds.now) (exploration_of options.entry) (over W.out W.failed out.old out.new) fault) }
 {
-    let plan = plan_of(alloc, trial, tries)?;
-    let outcome_counts = try_all(alloc, trial, plan.injections.as_slice(), out)?;
-    close(tries, &outcome_counts, plan.left, out);
-    Ok(())
+    let planned = plan_of(alloc, trial, options.tries)?;
+    let injections = planned.plan.injections.as_slice();
+    let told = try_all(alloc, trial, options, planned.plain, injections, out)?;
+    close(options, &told, planned.plan.left, out);
+    Ok(told.unexpected)
 }
 
 /// Runs an image under a script, once for each of the tries, with what befalls it then, and writes how each of these runs ended. Each has
@@ -303,9 +423,28 @@ pub fn explore_bytes<W: Sink, E: Sink>(
     requires limit { (1 ≤ limit) × (limit ≤ 1000000000) }
     ensures { ExploreAnswers image.now script.now limit (length kinds.now) tries (over W.out W.failed out.old out.new) (over E.out E.failed errors.old errors.new) result }
 {
+    let options = ExploreOptions::of_tries(tries);
+    explore_bytes_with(alloc, image, script, limit, kinds, options, out, errors)
+}
+
+/// Explores as `explore_bytes` does, tells the run as it is too where that is asked, and judges how the runs that are told ended where some ends are
+/// expected. The status is `Unfinished` where all were told and one has ended otherwise.
+pub fn explore_bytes_with<W: Sink, E: Sink>(
+    alloc: Global,
+    image: &[u8],
+    script: &[u8],
+    limit: u32,
+    kinds: &[NativeKind],
+    options: ExploreOptions<'_>,
+    out: &mut W,
+    errors: &mut E,
+) -> ExitStatus
+    requires limit { (1 ≤ limit) × (limit ≤ 1000000000) }
+    ensures { ExploreAnswersOf image.now script.now limit (length kinds.now) (exploration_of options.entry) (over W.out W.failed out.old out.new) (over E.out E.failed errors.old errors.new) result }
+{
     match accept_bytes(alloc, image) {
         Ok(accepted) => {
-            let found = explore_text(alloc, &accepted, script, limit, kinds, tries, out);
+            let found = explore_text(alloc, &accepted, script, limit, kinds, options, out);
             drop(accepted);
             answer(found, errors)
         }
@@ -320,11 +459,11 @@ fn explore_text<W: Sink>(
     text: &[u8],
     limit: u32,
     kinds: &[NativeKind],
-    tries: Tries,
+    options: ExploreOptions<'_>,
     out: &mut W,
 ) -> Result<ExitStatus, Fault>
     requires limit { (1 ≤ limit) × (limit ≤ 1000000000) }
-    ensures { (bytes : List ℕ) → IsSerialized bytes accepted.now → Unreported (AcceptedExplores bytes text.now limit (length kinds.now) tries (over W.out W.failed out.old out.new)) result }
+    ensures { (bytes : List ℕ) → IsSerialized bytes accepted.now → Unreported (AcceptedExplores bytes text.now limit (length kinds.now) (exploration_of options.entry) (over W.out W.failed out.old out.new)) result }
 {
     accepted.facts();
     let script = match read_script(alloc, text) {
@@ -337,27 +476,39 @@ fn explore_text<W: Sink>(
         limit,
         kinds,
     };
-    explore_script(alloc, &trial, tries, out)
+    explore_script(alloc, &trial, options, out)
 }
 
 /// Explores an accepted image under a script.
 fn explore_script<W: Sink>(
     alloc: Global,
     trial: &Trial<'_>,
-    tries: Tries,
+    options: ExploreOptions<'_>,
     out: &mut W,
 ) -> Result<ExitStatus, Fault>
     requires limit { (1 ≤ trial.now.limit) × (trial.now.limit ≤ 1000000000) }
     requires timely { IsTimely trial.now.script.now.timed }
-    ensures { (bytes text : List ℕ) → IsSerialized bytes trial.now.accepted.now → denoted text ≡ Ok trial.now.script.now → Unreported (AcceptedExplores bytes text trial.now.limit (length trial.now.kinds.now) tries (over W.out W.failed out.old out.new)) result }
+    ensures { (bytes text : List ℕ) → IsSerialized bytes trial.now.accepted.now → denoted text ≡ Ok trial.now.script.now → Unreported (AcceptedExplores bytes text trial.now.limit (length trial.now.kinds.now) (exploration_of options.entry) (over W.out W.failed out.old out.new)) result }
 {
     trial.accepted.facts();
     runs_well(trial.accepted);
-    if let Err(fault) = explore(alloc, trial, tries, out) {
-        return Err(fault);
+    match explore(alloc, trial, options, out) {
+        Ok(unexpected) => status_of_runs(unexpected, out),
+        Err(fault) => Err(fault),
     }
+}
+
+/// The status where so many runs did not end as expected, unless the sink has failed.
+fn status_of_runs<W: Sink>(unexpected: usize, out: &W) -> Result<ExitStatus, Fault>
+    ensures failed { W.failed out.now ≡ true → result ≡ Err Fault.Write }
+    ensures none { W.failed out.now ≡ false → unexpected ≡ 0 → result ≡ Ok ExitStatus.Done }
+    ensures some { W.failed out.now ≡ false → 0 < unexpected → result ≡ Ok ExitStatus.Unfinished }
+{
     if out.has_failed() {
         return Err(Fault::Write);
+    }
+    if unexpected > 0 {
+        return Ok(ExitStatus::Unfinished);
     }
     Ok(ExitStatus::Done)
 }

@@ -10,7 +10,7 @@ pub enum ExitStatus {
     ImageRefused,
     /// The command line, a native's word, the text beside an image or the script is refused, or there are too few natives.
     CallRefused,
-    /// A run has ended before it stopped: for nothing, or at its limit.
+    /// A run has ended before it stopped: for nothing, or at its limit; or one that was explored has ended otherwise than is expected.
     Unfinished,
     /// Main has left, or a dispatch was left and answered with an error.
     Broken,

@@ -6,7 +6,7 @@ use Rattle.std.proofs.lemmas.Bool.Decides.{nat_tests}
 use Rattle.std.specs.Str.{bytes_eq}
 use Rattle.aom_debug_protocol.specs.Commands.{command_said, known, line_says, name_says, verb_says, words_say}
 use Rattle.aom_debug_protocol.specs.declared.command.Command.{Command}
-use Rattle.aom_debug_protocol.specs.declared.command.Command.TheVariants.{Step, Next, Finish, Turn, Go, Until, Break, Unbreak, Watch}
+use Rattle.aom_debug_protocol.specs.declared.command.Command.TheVariants.{Step, MachineStep, Next, MachineNext, Finish, Turn, Go, Until, Break, Unbreak, Watch}
 use Rattle.aom_debug_protocol.specs.Verbs.{verb_named}
 use Rattle.aom_debug_protocol.specs.declared.verb.Verb.{Verb}
 use Rattle.aom_debug_protocol.specs.declared.verb.Verb.TheVariants as v
@@ -30,7 +30,10 @@ use Rattle.aom_debug_symbols.specs.Lines.{spot_in}
 use Rattle.aom_debug_symbols.specs.Commands.{command_by, is_mark, line_said, mark_at, mark_by, mark_first, mark_in, mark_line, mark_named, mark_numbered}
 use Rattle.aom_debug_symbols.specs.Commands.{mark_said, mark_there, mark_where, mark_words, marked, numbered, or_named}
 use Rattle.aom_debug.specs.Commands.{is_count, spot_named}
-use Rattle.aom_debug.specs.Debugging.{Answer, CountsNot, Declined, FindsNone, Goes, GoesNamed, Marks, MarksAt, Outgoing, UntilCommands, steps_of}
+use Rattle.aom_debug.specs.Debugging.{Answer, CountsNot, Declined, FindsNone, Goes, GoesNamed, Marks, MarksAt, Outgoing, UntilCommands, goes_of}
+use Rattle.aom_debug.specs.Courses.{step_course}
+use Rattle.aom_debug_stepping.specs.declared.run_goals.RunGoal.{RunGoal}
+use Rattle.aom_debug_stepping.specs.declared.run_goals.RunGoal.TheVariants as course
 use Rattle.aom_debug.specs.Executing.{ExecutesLine, Executes, Passes}
 use Rattle.aom_debug.specs.declared.debugger.Debugger.{Debugger}
 
@@ -104,17 +107,19 @@ module _ {X : Type 0} {B : X → Type 0} where
     declined = record { same = refl; silent = refl }
 
     module _ (has_write_failed : d.has_failed ≡ true) where
-      either : (b : Bool) (n : ℕ) → cond b (Goes (steps_of n) d d still (Err Ended)) (CountsNot d d still (Err Ended))
-      either true n = (inl has_write_failed, declined)
-      either false n = (has_write_failed, declined)
+      either : (b : Bool) (way : RunGoal) → cond b (Goes (goes_of way) d d still (Err Ended)) (CountsNot d d still (Err Ended))
+      either true way = (inl has_write_failed, declined)
+      either false way = (has_write_failed, declined)
 
       named_either : (o : Option CodeLocation) → GoesNamed o d d still (Err Ended)
       named_either None = (has_write_failed, declined)
       named_either (Some spot) = (inl has_write_failed, declined)
 
       executes_failed : (command : Command) → Executes command d d still (Err Ended)
-      executes_failed (Step n) = either (is_count n) n
+      executes_failed (Step n) = either (is_count n) (step_course d.names n)
+      executes_failed (MachineStep n) = either (is_count n) (course.Steps n)
       executes_failed Next = (inl has_write_failed, declined)
+      executes_failed MachineNext = (inl has_write_failed, declined)
       executes_failed Finish = (inl has_write_failed, declined)
       executes_failed Turn = (inl has_write_failed, declined)
       executes_failed Go = (inl has_write_failed, declined)

@@ -7,7 +7,7 @@ use Rattle.aom_run.specs.Calls.{RefinesWithNatives}
 use Rattle.aom_run.specs.declared.machine.HostedMachine.{HostedMachine}
 use Rattle.aom_transcript.specs.Sinks.{after}
 use Rattle.aom_debug_protocol.specs.declared.command.Command.{Command}
-use Rattle.aom_debug_protocol.specs.declared.command.Command.TheVariants.{Step, Next, Finish, Turn, Go, Until, Break, Unbreak, Breaks, Clock, Frames}
+use Rattle.aom_debug_protocol.specs.declared.command.Command.TheVariants.{Step, MachineStep, Next, MachineNext, Finish, Turn, Go, Until, Break, Unbreak, Breaks, Clock, Frames}
 use Rattle.aom_debug_protocol.specs.declared.command.Command.TheVariants.{Help, Cells, Owners, Cleanup, Actives, History, Timers, Words, Queue, Print, Watch}
 use Rattle.aom_debug_protocol.specs.declared.fault.DebugFault.{DebugFault}
 use Rattle.aom_debug_protocol.specs.declared.fault.DebugFault.TheVariants.{BadCommand, Ended, NoSuch, NotThere, OutOfMemory, WriteFault}
@@ -17,8 +17,9 @@ use Rattle.aom_debug_protocol.specs.declared.breakpoints.Breakpoint.{Breakpoint}
 use Rattle.aom_debug_protocol.specs.declared.spot.CodeLocation.{CodeLocation}
 use Rattle.aom_debug.specs.Commands.{NamesNone, is_count, moved_text, spot_named, with_condition}
 use Rattle.aom_debug.specs.Runners.{outside_of}
-use Rattle.aom_debug.specs.Debugging.{Answer, CountsNot, Declined, Goes, GoesNamed, LacksQueue, LacksWords, Looks, LooksAt, Marks, NamesNot, Outgoing}
-use Rattle.aom_debug.specs.Debugging.{Sees, SeesQueue, SeesWords, Steps, UntilCommands, goes_of, has_ended, overs_of, places_of, runs_of, steps_of, turns_of}
+use Rattle.aom_debug.specs.Debugging.{Answer, Counts, CountsNot, Declined, Goes, GoesNamed, LacksQueue, LacksWords, Looks, LooksAt, Marks, NamesNot, Outgoing}
+use Rattle.aom_debug.specs.Debugging.{Sees, SeesQueue, SeesWords, UntilCommands, goes_of, has_ended, overs_of, places_of, runs_of, turns_of}
+use Rattle.aom_debug.specs.Courses.{next_course, step_course}
 use Rattle.aom_debug_stepping.specs.declared.run_goals.RunGoal.{RunGoal}
 use Rattle.aom_debug_stepping.specs.declared.over.Awaited.TheVariants as scopes
 use Rattle.aom_debug_stepping.specs.declared.run_goals.RunGoal.TheVariants as ways
@@ -76,18 +77,19 @@ module _ {X : Type 0} {B : X → Type 0} (old new : Debugger X B) (out : Outgoin
       )
 
   -- what is not answered where the number is none is answered where it is one
-  counted : (n : ℕ) (answer : Answer) → (CountsNot old new out answer → ⊥) → Steps n old new out answer → (is_count n ≡ true) × Goes (steps_of n) old new out answer
-  counted n answer not x = go (is_count n) refl x
+  counted : (way : RunGoal) (n : ℕ) (answer : Answer) → (CountsNot old new out answer → ⊥) → Counts way n old new out answer → (is_count n ≡ true) × Goes (goes_of way) old new out answer
+  counted way n answer not x = go (is_count n) refl x
     where
-      go : (b : Bool) → is_count n ≡ b → cond b (Goes (steps_of n) old new out answer) (CountsNot old new out answer) →
-          (is_count n ≡ true) × Goes (steps_of n) old new out answer
+      go : (b : Bool) → is_count n ≡ b → cond b (Goes (goes_of way) old new out answer) (CountsNot old new out answer) →
+          (is_count n ≡ true) × Goes (goes_of way) old new out answer
       go true is y = (is, y)
       go false is y = absurd (not y)
 
-  steps_done : (n : ℕ) → Executes (Step n) old new out (Ok tt) → Done (λ a text b. Does old.runner.machine.core.image (outside_of old.runner) (Step n) a text b)
-  steps_done n x s stands =
-      let y = counted n (Ok tt) (λ z. z) x in
-      let f = goes_done (ways.Steps n) y.1 s stands in
+  steps_done : (way : RunGoal) (n : ℕ) → Counts way n old new out (Ok tt) → Done (λ a text b. (is_count n ≡ true) × GoesSo old.runner.machine.core.image
+      (outside_of old.runner) (way_of old.runner.machine.core.image (outside_of old.runner) old.breakpoints way) a text b)
+  steps_done way n x s stands =
+      let y = counted way n (Ok tt) (λ z. z) x in
+      let f = goes_done way y.1 s stands in
       (f.0, f.1, (y.0, f.2), f.3, f.4)
 
   -- what is not answered where the numbers name none is answered where they name one
@@ -122,8 +124,10 @@ module _ {X : Type 0} {B : X → Type 0} (old new : Debugger X B) (out : Outgoin
 
   pub is_done : (command : Command) → Executes command old new out (Ok tt) →
       Done (λ a text b. Does old.runner.machine.core.image (outside_of old.runner) command a text b)
-  is_done (Step n) x = steps_done n x
-  is_done Next x = goes_done (ways.Over scopes.Step) x
+  is_done (Step n) x = steps_done (step_course old.names n) n x
+  is_done (MachineStep n) x = steps_done (ways.Steps n) n x
+  is_done Next x = goes_done (next_course old.names) x
+  is_done MachineNext x = goes_done (ways.Over scopes.Step) x
   is_done Finish x = goes_done (ways.Over scopes.Method) x
   is_done Turn x = goes_done ways.EndOfDispatch x
   is_done Go x = goes_done ways.Breakpoint x
@@ -152,8 +156,10 @@ module _ {X : Type 0} {B : X → Type 0} (old new : Debugger X B) (out : Outgoin
   well_same same = ap (λ (d : Debugger X B). d.has_failed) same ∙ well
 
   pub still_well : (command : Command) → Executes command old new out (Ok tt) → new.has_failed ≡ false
-  still_well (Step n) x = well_goes (steps_of n) (counted n (Ok tt) (λ z. z) x).1
-  still_well Next x = well_goes (overs_of scopes.Step) x
+  still_well (Step n) x = well_goes (goes_of (step_course old.names n)) (counted (step_course old.names n) n (Ok tt) (λ z. z) x).1
+  still_well (MachineStep n) x = well_goes (goes_of (ways.Steps n)) (counted (ways.Steps n) n (Ok tt) (λ z. z) x).1
+  still_well Next x = well_goes (goes_of (next_course old.names)) x
+  still_well MachineNext x = well_goes (overs_of scopes.Step) x
   still_well Finish x = well_goes (overs_of scopes.Method) x
   still_well Turn x = well_goes turns_of x
   still_well Go x = well_goes runs_of x
@@ -193,15 +199,19 @@ module _ {X : Type 0} {B : X → Type 0} (old new : Debugger X B) (out : Outgoin
   looks_refused shows WriteFault other x = other refl
   looks_refused shows _ other x = x
 
-  counts_refused : (n : ℕ) → is_count n ≡ false → (fault : DebugFault) → CountsNot old new out (Err fault) → Refused (Step n) fault
-  counts_refused n is fault x = grind arith
+  module _ (command : Command) (n : ℕ) (bad : is_count n ≡ false → (a : SessionState) → Refuses old.runner.machine.core.image command a BadCommand)
+      (over : is_count n ≡ true → (a : SessionState) → is_ended a ≡ true → Refuses old.runner.machine.core.image command a Ended) where
+    counts_refused : is_count n ≡ false → (fault : DebugFault) → CountsNot old new out (Err fault) → Refused command fault
+    counts_refused is BadCommand x = (x.1, λ s stands. bad is (standing old s))
+    counts_refused is Ended x = absurd (not_both old.has_failed x.0 well)
+    counts_refused is _ x = absurd x
 
-  steps_refused : (n : ℕ) (fault : DebugFault) → fault ≢ WriteFault → Executes (Step n) old new out (Err fault) → Refused (Step n) fault
-  steps_refused n fault other x = go (is_count n) refl x
-    where
-      go : (b : Bool) → is_count n ≡ b → cond b (Goes (steps_of n) old new out (Err fault)) (CountsNot old new out (Err fault)) → Refused (Step n) fault
-      go true is y = let r = goes_refused (steps_of n) fault other y in subst (λ f. Refused (Step n) f) (sym r.0) (r.1, (λ s stands. (is, r.2 s stands)))
-      go false is y = counts_refused n is fault y
+    steps_refused : (way : RunGoal) (fault : DebugFault) → fault ≢ WriteFault → Counts way n old new out (Err fault) → Refused command fault
+    steps_refused way fault other x = go (is_count n) refl x
+      where
+        go : (b : Bool) → is_count n ≡ b → cond b (Goes (goes_of way) old new out (Err fault)) (CountsNot old new out (Err fault)) → Refused command fault
+        go true is y = let r = goes_refused (goes_of way) fault other y in subst (λ f. Refused command f) (sym r.0) (r.1, (λ s stands. over is (standing old s) (r.2 s stands)))
+        go false is y = counts_refused is fault y
 
   names_refused : (method place : Number) → spot_named old.runner.machine.core.image method place ≡ None → (fault : DebugFault) →
       NamesNot old new out (Err fault) → Refused (Until method place) fault
@@ -261,8 +271,10 @@ module _ {X : Type 0} {B : X → Type 0} (old new : Debugger X B) (out : Outgoin
   watch_refused v OutOfMemory other x = absurd x.1
 
   pub is_refused : (command : Command) (fault : DebugFault) → fault ≢ WriteFault → Executes command old new out (Err fault) → Refused command fault
-  is_refused (Step n) fault other x = steps_refused n fault other x
-  is_refused Next fault other x = let r = goes_refused (overs_of scopes.Step) fault other x in subst (λ f. Refused Next f) (sym r.0) (r.1, r.2)
+  is_refused (Step n) fault other x = steps_refused (Step n) n (λ is a. is) (λ is a ended. (is, ended)) (step_course old.names n) fault other x
+  is_refused (MachineStep n) fault other x = steps_refused (MachineStep n) n (λ is a. is) (λ is a ended. (is, ended)) (ways.Steps n) fault other x
+  is_refused Next fault other x = let r = goes_refused (goes_of (next_course old.names)) fault other x in subst (λ f. Refused Next f) (sym r.0) (r.1, r.2)
+  is_refused MachineNext fault other x = let r = goes_refused (overs_of scopes.Step) fault other x in subst (λ f. Refused MachineNext f) (sym r.0) (r.1, r.2)
   is_refused Finish fault other x = let r = goes_refused (overs_of scopes.Method) fault other x in subst (λ f. Refused Finish f) (sym r.0) (r.1, r.2)
   is_refused Turn fault other x = let r = goes_refused turns_of fault other x in subst (λ f. Refused Turn f) (sym r.0) (r.1, r.2)
   is_refused Go fault other x = let r = goes_refused runs_of fault other x in subst (λ f. Refused Go f) (sym r.0) (r.1, r.2)
@@ -320,8 +332,12 @@ module _ {X : Type 0} {B : X → Type 0} (old new : Debugger X B) (out : Outgoin
       (x.4, (λ s stands. (_, inl (_, inl (does (standing old s) _ _ (x.1, can.names, can.room, refl, refl))), (x.5, x.6))))
 
   pub is_cut : (command : Command) → Executes command old new out (Err WriteFault) → CutOff command
-  is_cut (Step n) x = let y = counted n (Err WriteFault) (λ z. z) x in goes_cut (Step n) (steps_of n) (λ s stands ended. (y.0, ended)) y.1
-  is_cut Next x = goes_cut Next (overs_of scopes.Step) (λ s stands ended. ended) x
+  is_cut (Step n) x = let way = step_course old.names n in
+      let y = counted way n (Err WriteFault) (λ z. z) x in goes_cut (Step n) (goes_of way) (λ s stands ended. (y.0, ended)) y.1
+  is_cut (MachineStep n) x = let way = ways.Steps n in
+      let y = counted way n (Err WriteFault) (λ z. z) x in goes_cut (MachineStep n) (goes_of way) (λ s stands ended. (y.0, ended)) y.1
+  is_cut Next x = goes_cut Next (goes_of (next_course old.names)) (λ s stands ended. ended) x
+  is_cut MachineNext x = goes_cut MachineNext (overs_of scopes.Step) (λ s stands ended. ended) x
   is_cut Finish x = goes_cut Finish (overs_of scopes.Method) (λ s stands ended. ended) x
   is_cut Turn x = goes_cut Turn turns_of (λ s stands ended. ended) x
   is_cut Go x = goes_cut Go runs_of (λ s stands ended. ended) x

@@ -25,6 +25,7 @@ use Rattle.aom_debug_paths.specs.Paths.{IsFound, owned_at, queue_answers, words_
 use Rattle.aom_debug_paths.specs.declared.following.Found.{Found}
 use Rattle.aom_machine_state.specs.Stands.{Refines as CoreStandsFor}
 use Rattle.aom_debug_protocol.specs.Ways.{Way}
+use Rattle.aom_debug.specs.Courses.{next_course, step_course}
 use Rattle.aom_debug.specs.Commands.{NamesNone, ShowsActives, ShowsBreaks, ShowsCells, ShowsCleanup, ShowsClock, ShowsFrames, ShowsHelp, ShowsOwners, ShowsQueue, ShowsRecent, ShowsTimers, ShowsWords, is_count, moved_text, place_text, spot_named, with_condition}
 use Rattle.aom_debug.specs.declared.debugger.Debugger.{Debugger}
 use Rattle.aom_debug.specs.declared.looking.Inspection.{Inspection}
@@ -96,12 +97,21 @@ module _ {X : Type 0} {B : X → Type 0} where
   CountsNot old new out (Err Ended) = (old.has_failed ≡ true) × Declined old new out
   CountsNot old new out answer = ⊥
 
-  -- so many steps
-  abbrev pub steps_of : ℕ → Debugger X B → RunGoals
-  steps_of n = goes_of (course.Steps n)
+  -- by so many of something, if that is a number of steps
+  abbrev pub Counts : RunGoal → ℕ → Debugger X B → Debugger X B → Outgoing → Answer → Type 0
+  Counts way n old new out answer = cond (is_count n) (Goes (goes_of way) old new out answer) (CountsNot old new out answer)
 
+  -- so many steps, by lines where there is a source
   abbrev pub Steps : ℕ → Debugger X B → Debugger X B → Outgoing → Answer → Type 0
-  Steps n old new out answer = cond (is_count n) (Goes (steps_of n) old new out answer) (CountsNot old new out answer)
+  Steps n old new out answer = Counts (step_course old.names n) n old new out answer
+
+  -- so many steps of the machine
+  abbrev pub MachineSteps : ℕ → Debugger X B → Debugger X B → Outgoing → Answer → Type 0
+  MachineSteps n old new out answer = Counts (course.Steps n) n old new out answer
+
+  -- over a step, by lines where there is a source
+  abbrev pub GoesNext : Debugger X B → Debugger X B → Outgoing → Answer → Type 0
+  GoesNext old new out answer = Goes (goes_of (next_course old.names)) old new out answer
 
   -- to the end of a dispatch
   abbrev pub turns_of : Debugger X B → RunGoals

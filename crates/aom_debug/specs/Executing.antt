@@ -1,10 +1,10 @@
 -- What each command asks of a debugger, and what a line of commands does.
 use Rattle.std.specs.Prelude.{◌≡◌, Option, Some, None, Result, Ok, Err, true, false}
 use Rattle.aom_debug_protocol.specs.declared.command.Command.{Command}
-use Rattle.aom_debug_protocol.specs.declared.command.Command.TheVariants.{Step, Next, Finish, Turn, Go, Until, Break, Unbreak, Breaks, Clock, Frames, Help, Cells, Owners, Cleanup, Actives, History, Timers, Words, Queue, Print, Watch}
+use Rattle.aom_debug_protocol.specs.declared.command.Command.TheVariants.{Step, MachineStep, Next, MachineNext, Finish, Turn, Go, Until, Break, Unbreak, Breaks, Clock, Frames, Help, Cells, Owners, Cleanup, Actives, History, Timers, Words, Queue, Print, Watch}
 use Rattle.aom_debug_protocol.specs.declared.fault.DebugFault.{DebugFault}
 use Rattle.aom_debug_protocol.specs.declared.fault.DebugFault.TheVariants.{Ended}
-use Rattle.aom_debug.specs.Debugging.{Answer, Declined, GoesOver, LacksQueue, LacksWords, Looks, LooksAt, Outgoing, Runs, Sees, SeesQueue, SeesWords, Sets, Steps, Turns, Unsets, UntilCommands}
+use Rattle.aom_debug.specs.Debugging.{Answer, Declined, GoesNext, GoesOver, LacksQueue, LacksWords, Looks, LooksAt, MachineSteps, Outgoing, Runs, Sees, SeesQueue, SeesWords, Sets, Steps, Turns, Unsets, UntilCommands}
 use Rattle.aom_debug.specs.Printing.{Prints}
 use Rattle.aom_debug.specs.Watching.{Watches}
 use Rattle.aom_debug.specs.declared.debugger.Debugger.{Debugger}
@@ -15,7 +15,9 @@ module _ {X : Type 0} {B : X → Type 0} where
   -- a command by its call
   abbrev pub Executes : Command → Debugger X B → Debugger X B → Outgoing → Answer → Type 0
   Executes (Step n) = Steps n
-  Executes Next = GoesOver scopes.Step
+  Executes (MachineStep n) = MachineSteps n
+  Executes Next = GoesNext
+  Executes MachineNext = GoesOver scopes.Step
   Executes Finish = GoesOver scopes.Method
   Executes Turn = Turns
   Executes Go = Runs

@@ -4,6 +4,7 @@ pub mod Sessions
 pub mod Observing
 pub mod SessionLoop
 pub mod Commands
+pub mod Courses
 pub mod Debugging
 pub mod Printing
 pub mod Watching

@@ -11,7 +11,7 @@ use Rattle.aom_debug_symbols.specs.NameLists.{NameLists}
 use Rattle.aom_debug_symbols.specs.Answers.{answer_by}
 use Rattle.aom_debug_symbols.specs.Commands.{command_by}
 use Rattle.aom_debug_protocol.specs.declared.command.Command.{Command}
-use Rattle.aom_debug_protocol.specs.declared.command.Command.TheVariants.{Step, Next, Finish, Turn, Go, Until, Break, Unbreak, Breaks, Clock, Frames, Help, Cells, Owners, Cleanup, Actives, History, Timers, Words, Queue, Print, Watch}
+use Rattle.aom_debug_protocol.specs.declared.command.Command.TheVariants.{Step, MachineStep, Next, MachineNext, Finish, Turn, Go, Until, Break, Unbreak, Breaks, Clock, Frames, Help, Cells, Owners, Cleanup, Actives, History, Timers, Words, Queue, Print, Watch}
 use Rattle.aom_debug_protocol.specs.declared.fault.DebugFault.{DebugFault}
 use Rattle.aom_debug_protocol.specs.declared.fault.DebugFault.TheVariants as faults
 use Rattle.aom_debug_protocol.specs.Marks.{has_spot, is_set, without_spot}
@@ -26,8 +26,9 @@ use Rattle.aom_static_bounds.specs.Strongest.{IsStrongest}
 use Rattle.aom_typing_rules.specs.Typing.{Typing}
 use Rattle.aom_debug_protocol.specs.Answers.{answer_text}
 use Rattle.aom_debug_paths.specs.Paths.{queue_answers, words_answers}
-use Rattle.aom_debug.specs.RunGoals.{RunGoals, GoesBy, GoesOver, GoesToBreakpoint, GoesToChange, GoesToPlace, ToLimit, TurnsOver}
+use Rattle.aom_debug.specs.RunGoals.{RunGoals, GoesBy, GoesOver, GoesToBreakpoint, GoesToChange, GoesToPlace, ToLimit, TurnsOver, way_of}
 use Rattle.aom_debug_stepping.specs.declared.over.Awaited.TheVariants as scopes
+use Rattle.aom_debug.specs.Courses.{next_course, step_course}
 use Rattle.aom_debug.specs.Commands.{HasVariable, LacksVariable, NamesNoMark, NamesNoRoom, ShowsActives, ShowsBreaks, ShowsCells, ShowsCleanup, ShowsClock, ShowsFrames, ShowsHelp, ShowsOwners, ShowsQueue, ShowsRecent, ShowsTimers, ShowsVariable, ShowsWords, is_count, moved_text, spot_named, with_condition}
 
 -- where a session stands: at a state, with these breakpoints, these were the latest instructions, and all is told by the names and the lines of a text, where there is one
@@ -73,8 +74,10 @@ Unsets = Marks has_spot without_spot
 
 -- a command that is done
 abbrev pub Does : Image → Environment → Command → SessionState → List ℕ → SessionState → Type 0
-Does p outside (Step n) a text b = (is_count n ≡ true) × Goes p outside (GoesBy p outside n) a text b
-Does p outside Next a text b = Goes p outside (GoesOver p outside scopes.Step a.spots) a text b
+Does p outside (Step n) a text b = (is_count n ≡ true) × Goes p outside (way_of p outside a.spots (step_course a.names n)) a text b
+Does p outside (MachineStep n) a text b = (is_count n ≡ true) × Goes p outside (GoesBy p outside n) a text b
+Does p outside Next a text b = Goes p outside (way_of p outside a.spots (next_course a.names)) a text b
+Does p outside MachineNext a text b = Goes p outside (GoesOver p outside scopes.Step a.spots) a text b
 Does p outside Finish a text b = Goes p outside (GoesOver p outside scopes.Method a.spots) a text b
 Does p outside Turn a text b = Goes p outside (TurnsOver p outside) a text b
 Does p outside Go a text b = Goes p outside (GoesToBreakpoint p outside a.spots) a text b
@@ -100,7 +103,10 @@ Does p outside (Watch v) a text b = Watches p outside v a text b
 abbrev pub Refuses : Image → Command → SessionState → DebugFault → Type 0
 Refuses p (Step n) a faults.BadCommand = is_count n ≡ false
 Refuses p (Step n) a faults.Ended = (is_count n ≡ true) × (has_ended a ≡ true)
+Refuses p (MachineStep n) a faults.BadCommand = is_count n ≡ false
+Refuses p (MachineStep n) a faults.Ended = (is_count n ≡ true) × (has_ended a ≡ true)
 Refuses p Next a faults.Ended = has_ended a ≡ true
+Refuses p MachineNext a faults.Ended = has_ended a ≡ true
 Refuses p Finish a faults.Ended = has_ended a ≡ true
 Refuses p Turn a faults.Ended = has_ended a ≡ true
 Refuses p Go a faults.Ended = has_ended a ≡ true
@@ -138,7 +144,9 @@ pub data Session (p : Image) (outside : Environment) (a : SessionState) : List (
 -- a command that goes on, and may
 abbrev pub MovesOn : Image → Result (Option Command) DebugFault → SessionState → Type 0
 MovesOn p (Ok (Some (Step n))) a = (is_count n ≡ true) × (has_ended a ≡ false)
+MovesOn p (Ok (Some (MachineStep n))) a = (is_count n ≡ true) × (has_ended a ≡ false)
 MovesOn p (Ok (Some Next)) a = has_ended a ≡ false
+MovesOn p (Ok (Some MachineNext)) a = has_ended a ≡ false
 MovesOn p (Ok (Some Finish)) a = has_ended a ≡ false
 MovesOn p (Ok (Some Turn)) a = has_ended a ≡ false
 MovesOn p (Ok (Some Go)) a = has_ended a ≡ false

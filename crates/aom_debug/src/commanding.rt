@@ -40,7 +40,9 @@ impl<'a> Debugger<'a> {
     {
         match command {
             Command::Step(steps) => self.step(steps, out),
-            Command::Next => self.over(Awaited::Step, out),
+            Command::MachineStep(steps) => self.machine_step(steps, out),
+            Command::Next => self.next(out),
+            Command::MachineNext => self.over(Awaited::Step, out),
             Command::Finish => self.over(Awaited::Method, out),
             Command::Turn => self.turn(out),
             Command::Go => self.go(out),

@@ -6,7 +6,7 @@ ghost use Rattle.aom_machine_state.specs.LineBuffer.{step_lines};
 ghost use Rattle.aom_script.specs.Script.{IsTimely};
 ghost use Rattle.aom_natives.specs.Slots.{AllAgree};
 ghost use Rattle.aom_debug_stepping.specs.Runners.{IsReady, KeepsRunner};
-ghost use Rattle.aom_debug.specs.Debugging.{GivesUp, Goes, Runs, Sets, SetsAt, Shows, Steps, Turns, goes_of, has_ended};
+ghost use Rattle.aom_debug.specs.Debugging.{GivesUp, Goes, Runs, Sets, SetsAt, Shows, Turns, goes_of, has_ended};
 
 use crate::showing::report_place;
 use aom_debug_protocol::{
@@ -22,9 +22,6 @@ use aom_script::Script;
 use aom_text::Number;
 use aom_transcript::Page;
 use std::alloc::Global;
-
-/// The most steps of one command.
-const MAX_STEPS: u32 = 1_000_000;
 
 /// A machine that goes on as it is told.
 #[derive(Drop)]
@@ -132,23 +129,6 @@ impl<'a> Debugger<'a> {
         }
     }
 
-    /// Goes on by so many steps, from 1 to 1,000,000, or to the end of the run.
-    pub fn step<W: Sink>(&mut self, steps: u32, out: &mut W) -> Result<(), DebugFault>
-        requires agree { AllAgree (λ l. l.ids) (λ l. (⟦<dyn Native as Native>⟧ l.native.vtable).owed l.native.value) self.old.runner.machine.natives.slots.items }
-        requires ready { IsReady self.old.runner }
-        ensures agree { AllAgree (λ l. l.ids) (λ l. (⟦<dyn Native as Native>⟧ l.native.vtable).owed l.native.value) self.new.runner.machine.natives.slots.items }
-        ensures keeps { KeepsRunner self.old.runner self.new.runner }
-        ensures answer { Steps steps self.old self.new (record { before = W.out out.old; now = W.out out.new; failed = W.failed out.new }) result }
-    {
-        if self.has_failed {
-            return Err(DebugFault::Ended);
-        }
-        if steps == 0 || steps > MAX_STEPS {
-            return Err(DebugFault::BadCommand);
-        }
-        self.run_until(RunGoal::Steps(steps), out)
-    }
-
     /// Goes on so far, and tells where that has led.
     pub(crate) fn run_until<W: Sink>(
         &mut self,
@@ -159,7 +139,7 @@ impl<'a> Debugger<'a> {
         requires ready { IsReady self.old.runner }
         ensures agree { AllAgree (λ l. l.ids) (λ l. (⟦<dyn Native as Native>⟧ l.native.vtable).owed l.native.value) self.new.runner.machine.natives.slots.items }
         ensures keeps { KeepsRunner self.old.runner self.new.runner }
-        ensures answer { Goes (goes_of course) self.old self.new (record { before = W.out out.old; now = W.out out.new; failed = W.failed out.new }) result }
+        ensures answer { Goes (goes_of course.entry) self.old self.new (record { before = W.out out.old; now = W.out out.new; failed = W.failed out.new }) result }
     {
         if self.is_done() {
             return Err(DebugFault::Ended);

@@ -1,5 +1,6 @@
 -- What a line of a debugger's input says.
-use Rattle.std.specs.Prelude.{ℕ, Bool, true, false, nat_lt, if◌then◌else◌, List, [], ◌∷◌, length, Option, Some, None, option_map, Result, Ok, Err}
+use Rattle.std.specs.Prelude.{ℕ, Bool, true, false, nat_lt, if◌then◌else◌, List, [], ◌∷◌, codes, length, Option, Some, None, option_map, Result, Ok, Err}
+use Rattle.std.specs.Str.{bytes_eq}
 use Rattle.aom_text.specs.Words.{words}
 use Rattle.aom_text.specs.Numbers.{number_of, number_within}
 use Rattle.aom_text.specs.declared.number.Number.{Number}
@@ -9,7 +10,7 @@ use Rattle.aom_debug_protocol.specs.Conditions.{condition_said}
 use Rattle.aom_debug_protocol.specs.declared.condition.Condition.{Condition}
 use Rattle.aom_debug_protocol.specs.declared.variable.Variable.{Variable}
 use Rattle.aom_debug_protocol.specs.declared.command.Command.{Command}
-use Rattle.aom_debug_protocol.specs.declared.command.Command.TheVariants.{Step, Next, Finish, Turn, Go, Until, Break, Unbreak, Breaks, Clock, Frames, Help, Cells, Owners, Cleanup, Actives, History, Timers, Words, Queue, Print, Watch}
+use Rattle.aom_debug_protocol.specs.declared.command.Command.TheVariants.{Step, MachineStep, Next, MachineNext, Finish, Turn, Go, Until, Break, Unbreak, Breaks, Clock, Frames, Help, Cells, Owners, Cleanup, Actives, History, Timers, Words, Queue, Print, Watch}
 use Rattle.aom_debug_protocol.specs.Verbs.{verb_named}
 use Rattle.aom_debug_protocol.specs.declared.verb.Verb.{Verb}
 use Rattle.aom_debug_protocol.specs.declared.verb.Verb.TheVariants as v
@@ -19,7 +20,6 @@ use Rattle.aom_debug_protocol.specs.declared.fault.DebugFault.TheVariants.{BadCo
 -- ---- names alone
 
 abbrev pub command_of : Verb → Option Command
-command_of v.Next = Some Next
 command_of v.Finish = Some Finish
 command_of v.Turn = Some Turn
 command_of v.Go = Some Go
@@ -40,16 +40,32 @@ alone verb (w ∷ ws) = None
 
 -- ---- names with numbers
 
--- so many steps, from 1 to 1,000,000
-abbrev pub steps_by : Option Number → Option Command
-steps_by None = None
-steps_by (Some n) = option_map Step (number_within 1 1000000 n)
+-- this word asks for steps of the machine
+abbrev pub is_of_machine : List ℕ → Bool
+is_of_machine word = bytes_eq word (codes "--machine")
+
+-- so many steps, from 1 to 1,000,000, as the last word
+abbrev pub count_by : Option Number → Option ℕ
+count_by None = None
+count_by (Some n) = number_within 1 1000000 n
+
+abbrev pub last_count : List ℕ → List (List ℕ) → Option ℕ
+last_count word [] = count_by (number_of word)
+last_count word (other ∷ others) = None
 
 -- one step where no number is said
+abbrev pub count_says : List (List ℕ) → Option ℕ
+count_says [] = Some 1
+count_says (word ∷ others) = last_count word others
+
 abbrev pub step_says : List (List ℕ) → Option Command
 step_says [] = Some (Step 1)
-step_says (steps ∷ []) = steps_by (number_of steps)
-step_says _ = None
+step_says (word ∷ others) = if is_of_machine word then option_map MachineStep (count_says others) else option_map Step (last_count word others)
+
+abbrev pub next_says : List (List ℕ) → Option Command
+next_says [] = Some Next
+next_says (word ∷ []) = if is_of_machine word then Some MachineNext else None
+next_says _ = None
 
 -- a method and a place, whether they are any or not, and a condition or none
 abbrev pub breaks_at : Option Number → Option Number → Result Condition DebugFault → Option Command
@@ -115,6 +131,7 @@ help_says _ = None
 
 abbrev pub words_say : Verb → List (List ℕ) → Option Command
 words_say v.Step others = step_says others
+words_say v.Next others = next_says others
 words_say v.Break others = break_says others
 words_say v.Unbreak others = unbreak_says others
 words_say v.Until others = until_says others
@@ -166,7 +183,9 @@ ends_session line = if nat_lt 256 (length line) then false else is_end (words li
 -- what a user may say again
 abbrev pub is_repeated : Command → Bool
 is_repeated (Step n) = true
+is_repeated (MachineStep n) = true
 is_repeated Next = true
+is_repeated MachineNext = true
 is_repeated Turn = true
 is_repeated command = false
 

@@ -72,8 +72,8 @@ help_variables = ended (codes "VARIABLE: rN or wN of the innermost method, or PA
 
 -- its short name, and what else may be written of it
 abbrev pub also : Verb → List ℕ
-also Step = ended (codes "short: s; step alone is step 1")
-also Next = ended (codes "short: n")
+also Step = ended (codes "of a source N lines; step --machine N: N steps all the same") ++ ended (codes "short: s; step alone is step 1")
+also Next = ended (codes "of a source over the line; next --machine: over the step all the same") ++ ended (codes "short: n")
 also Go = ended (codes "short: c or continue")
 also Until = help_words
 also Watch = help_variables

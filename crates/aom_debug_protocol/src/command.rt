@@ -1,7 +1,7 @@
 //! What a line of commands says.
 ghost use Rattle.std.specs.Prelude.{◌≡◌};
 ghost use Rattle.aom_text.specs.Numbers.{number_of};
-ghost use Rattle.aom_debug_protocol.specs.Commands.{alone, break_says, breaks_at, command_of, command_said, ends_session, help_about, help_says, is_end, is_quit, is_repeated, known, line_says, may_repeat, print_of, queue_at, step_says, steps_by, unbreak_says, unbreaks_at, until_at, until_says, verb_says, watch_of, words_at, words_say};
+ghost use Rattle.aom_debug_protocol.specs.Commands.{alone, break_says, breaks_at, command_of, command_said, count_says, ends_session, help_about, help_says, is_end, is_of_machine, is_quit, is_repeated, known, last_count, line_says, may_repeat, next_says, print_of, queue_at, step_says, unbreak_says, unbreaks_at, until_at, until_says, verb_says, watch_of, words_at, words_say};
 ghost use Rattle.aom_debug_protocol.specs.Conditions.{condition_said};
 
 use crate::DebugFault;
@@ -18,10 +18,14 @@ const MAX_BYTES: usize = 256;
 /// What is asked of a debugger.
 #[derive(Drop)]
 pub enum Command {
-    /// So many steps, from 1 to 1,000,000.
+    /// So many steps, from 1 to 1,000,000: lines of a source, or the machine's own where there is none.
     Step(u32),
-    /// Until the step that is next is over, with all that it calls, traps or destroys.
+    /// So many steps of the machine, whether there is a source or not.
+    MachineStep(u32),
+    /// Until the line of a source that is next is over, with all that it calls; or the machine's step, where there is no source.
     Next,
+    /// Until the machine's step that is next is over, with all that it calls, traps or destroys.
+    MachineNext,
     /// To the end of the innermost method at hand.
     Finish,
     /// To the end of the dispatch at hand, or of the next.
@@ -103,7 +107,14 @@ pub fn may_repeat(line: &[u8]) -> bool
 fn is_repeated(command: &Command) -> bool
     ensures { result ≡ is_repeated command.now }
 {
-    matches!(command, Command::Step(_) | Command::Next | Command::Turn)
+    matches!(
+        command,
+        Command::Step(_)
+            | Command::MachineStep(_)
+            | Command::Next
+            | Command::MachineNext
+            | Command::Turn
+    )
 }
 
 /// What the words of a line say.
@@ -145,6 +156,7 @@ fn read_words(verb: Verb, words: WordCursor) -> Option<Command>
 {
     match verb {
         Verb::Step => read_step(words),
+        Verb::Next => read_next(words),
         Verb::Break => read_break(words),
         Verb::Unbreak => read_unbreak(words),
         Verb::Until => read_until(words),
@@ -213,7 +225,6 @@ fn command_of(verb: Verb) -> Option<Command>
     ensures { result ≡ command_of verb }
 {
     match verb {
-        Verb::Next => Some(Command::Next),
         Verb::Finish => Some(Command::Finish),
         Verb::Turn => Some(Command::Turn),
         Verb::Go => Some(Command::Go),
@@ -252,23 +263,58 @@ fn help_about(verb: Option<Verb>) -> Option<Command>
     }
 }
 
-fn read_step(mut words: WordCursor) -> Option<Command>
-    ensures { result ≡ step_says words.entry }
+/// Whether a word asks for steps of the machine.
+fn is_of_machine(word: &[u8]) -> bool
+    ensures { result ≡ is_of_machine word.now }
 {
-    let Some(steps) = words.next() else {
-        return Some(Command::Step(1));
-    };
-    if words.is_empty() {
-        step_by(steps)
+    word == b"--machine".as_slice()
+}
+
+/// The number of steps, which is the last word.
+fn last_count(word: &[u8], others: WordCursor) -> Option<u32>
+    ensures { result ≡ last_count word.now others.entry }
+{
+    if others.is_empty() {
+        Number::of(word)?.within(1, 1_000_000)
     } else {
         None
     }
 }
 
-fn step_by(steps: &[u8]) -> Option<Command>
-    ensures { result ≡ steps_by (number_of steps.now) }
+/// A number of steps, one where none is said.
+fn read_count(mut words: WordCursor) -> Option<u32>
+    ensures { result ≡ count_says words.entry }
 {
-    Some(Command::Step(Number::of(steps)?.within(1, 1_000_000)?))
+    match words.next() {
+        Some(word) => last_count(word, words),
+        None => Some(1),
+    }
+}
+
+fn read_step(mut words: WordCursor) -> Option<Command>
+    ensures { result ≡ step_says words.entry }
+{
+    let Some(word) = words.next() else {
+        return Some(Command::Step(1));
+    };
+    if is_of_machine(word) {
+        Some(Command::MachineStep(read_count(words)?))
+    } else {
+        Some(Command::Step(last_count(word, words)?))
+    }
+}
+
+fn read_next(mut words: WordCursor) -> Option<Command>
+    ensures { result ≡ next_says words.entry }
+{
+    let Some(word) = words.next() else {
+        return Some(Command::Next);
+    };
+    if words.is_empty() && is_of_machine(word) {
+        Some(Command::MachineNext)
+    } else {
+        None
+    }
 }
 
 fn read_break(mut words: WordCursor) -> Option<Command>

@@ -5,10 +5,12 @@ ghost use Rattle.aom_debug_protocol.specs.Help.{help_by, help_text};
 use crate::Verb;
 
 const STEP: &[u8] = b"step N: on by N steps, from 1 to 1000000
+of a source N lines; step --machine N: N steps all the same
 short: s; step alone is step 1
 ";
 
 const NEXT: &[u8] = b"next: on over what is next, with all that it calls
+of a source over the line; next --machine: over the step all the same
 short: n
 ";
 

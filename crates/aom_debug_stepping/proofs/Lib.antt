@@ -11,6 +11,7 @@ mod Passing
 mod Limits
 mod Leaving
 mod Runs
+mod SourceSteps
 pub mod DebugSteppingLemmas
 pub use Rattle.aom_image.proofs.ImageLemmas
 pub use Rattle.aom_machine.proofs.MachineLemmas

@@ -5,6 +5,7 @@ pub mod Sends
 pub mod Laws
 pub mod Over
 pub mod Stops
+pub mod SourceLines
 pub mod RunGoals
 pub mod RunGoalLaws
 -- what is said of the machine and of its runs, for those who say it of a debugger

@@ -4,12 +4,14 @@ use Rattle.aom_image.specs.Image.{Image}
 use Rattle.aom_semantics.specs.State.{State}
 use Rattle.aom_semantics.specs.World.{Environment}
 use Rattle.aom_transcript.specs.declared.line.Line.{Line}
+use Rattle.aom_machine_state.specs.declared.progress.Progress.{Progress}
 use Rattle.aom_machine_state.specs.declared.progress.Progress.TheVariants.{Running}
 use Rattle.aom_machine_state.specs.Progress.{progress_of}
 use Rattle.aom_machine.specs.Steps.{HasTask}
 use Rattle.aom_typing_rules.specs.Typing.{Typing}
 use Rattle.aom_static_bounds.specs.Strongest.{IsStrongest}
 use Rattle.aom_debug_protocol.specs.Marks.{same_spot}
+use Rattle.aom_debug_symbols.specs.NameLists.{NameLists}
 use Rattle.aom_debug_protocol.specs.declared.breakpoints.Breakpoint.{Breakpoint as BreakpointRecord}
 use Rattle.aom_debug_protocol.specs.declared.spot.CodeLocation.{CodeLocation}
 use Rattle.aom_debug_stepping.specs.Next.{next_of, root_is_due, spot_of}
@@ -22,8 +24,10 @@ use Rattle.aom_debug_stepping.specs.declared.run_goals.RunGoal.TheVariants as co
 use Rattle.aom_debug_stepping.specs.declared.dispatch.DispatchGoal.{DispatchGoal}
 use Rattle.aom_debug_stepping.specs.declared.dispatch.DispatchGoal.TheVariants as stretch
 use Rattle.aom_debug_stepping.specs.declared.walking.Until.{Until}
-use Rattle.aom_debug_stepping.specs.declared.walking.Until.TheVariants.{EndOfDispatch, Breakpoint, Change, Depth, Place}
+use Rattle.aom_debug_stepping.specs.declared.walking.Until.TheVariants.{EndOfDispatch, Breakpoint, Change, Depth, Line as AtLine, Place}
 use Rattle.aom_debug_stepping.specs.declared.watching.Watched.{Watched}
+use Rattle.aom_debug_stepping.specs.SourceLines.{has_left, scope_at}
+use Rattle.aom_debug_stepping.specs.declared.source_lines.LineSteps.{LineSteps}
 use Rattle.aom_debug_stepping.specs.Stops.{has_changed, is_broken, is_local}
 
 -- what leads from a state to another, as the latest instructions are these before and after
@@ -44,6 +48,7 @@ stays_at t p Breakpoint bs s = is_broken t s bs (spot_of (next_of p s))
 stays_at t p (Depth n) bs s = nat_le (length s.tasks) n || is_broken t s bs (spot_of (next_of p s))
 stays_at t p (Place spot) bs s = is_next spot (spot_of (next_of p s)) || is_broken t s bs (spot_of (next_of p s))
 stays_at t p (Change w) bs s = has_changed t p w s || is_broken t s bs (spot_of (next_of p s))
+stays_at t p (AtLine l) bs s = has_left l (length s.tasks) (spot_of (next_of p s)) || is_broken t s bs (spot_of (next_of p s))
 
 -- by the strongest typing
 abbrev pub ByTyping : Image → (Typing → RunGoals) → RunGoals
@@ -152,6 +157,25 @@ change_by false t p outside w bs = GoesOn p outside (λ s. stays_at t p (Change 
 abbrev pub GoesToChange : Image → Environment → Watched → List BreakpointRecord → RunGoals
 GoesToChange p outside w bs = ByTyping p (λ t. change_by (is_local w.variable) t p outside w bs)
 
+-- ---- by lines of a source
+
+-- from something at hand one step at least, and from none to the first place to stay
+abbrev pub line_goal : Progress → Until → DispatchGoal
+line_goal Running until = stretch.To until
+line_goal far until = stretch.OnTo until
+
+-- until an instruction is next that is no more of the line at hand, or one with a breakpoint, or the dispatch is over
+abbrev pub GoesLine : Typing → Image → Environment → NameLists → (enters : Bool) → List BreakpointRecord → RunGoals
+GoesLine t p outside ns enters bs old new s = InDispatch p outside (dispatch_goal_of t p outside.refused bs (line_goal (progress_of s) (AtLine (scope_at p ns enters s)))) old new s
+
+-- so many lines one after another
+pub data LinesGo (t : Typing) (p : Image) (outside : Environment) (ns : NameLists) (enters : Bool) (bs : List BreakpointRecord) (old : List CodeLocation) (s : State) : ℕ → List CodeLocation → List Line → State → Type 0 where
+  begins : LinesGo t p outside ns enters bs old s 0 old [] s
+  goes_line : {n : ℕ} {mid new : List CodeLocation} {lines more : List Line} {v u : State} → LinesGo t p outside ns enters bs old s n mid lines v → GoesLine t p outside ns enters bs mid new v more u → LinesGo t p outside ns enters bs old s (suc n) new (lines ++ more) u
+
+abbrev pub GoesLines : Typing → Image → Environment → List BreakpointRecord → LineSteps → RunGoals
+GoesLines t p outside bs l old new s lines u = LinesGo t p outside l.names l.enters bs old s l.count new lines u
+
 -- ---- each course that a debugger is asked for
 
 abbrev pub way_of : Image → Environment → List BreakpointRecord → RunGoal → RunGoals
@@ -161,6 +185,7 @@ way_of p outside bs course.Breakpoint = GoesToBreakpoint p outside bs
 way_of p outside bs (course.Over scope) = GoesOver p outside scope bs
 way_of p outside bs (course.Place spot) = GoesToPlace p outside spot bs
 way_of p outside bs (course.Change w) = GoesToChange p outside w bs
+way_of p outside bs (course.Lines l) = ByTyping p (λ t. GoesLines t p outside bs l)
 
 -- where it ends with the dispatch that reaches the limit, the run ends with that too
 abbrev pub ToLimit : Image → Environment → RunGoals → RunGoals

@@ -20,15 +20,15 @@ use aom_transcript::Sink;
 
 /// How far to go in a dispatch, if it does not end before.
 #[derive(Drop)]
-pub enum DispatchGoal {
+pub enum DispatchGoal<'a> {
     /// To its end.
     Whole,
     /// Until that is over, or an instruction with a breakpoint is next.
     Over(Awaited),
     /// On to a place to stay.
-    To(Until),
+    To(Until<'a>),
     /// On to a place to stay, unless it begins at one.
-    OnTo(Until),
+    OnTo(Until<'a>),
 }
 
 /// So far from something at hand.

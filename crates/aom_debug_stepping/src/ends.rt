@@ -60,11 +60,17 @@ fn root_owns(parts: &Parts) -> bool
 pub fn is_due(parts: &Parts, linked: &Linked) -> bool
     ensures { (s : State) → Refines (record { image = linked.now; parts = parts.now }) s → result ≡ root_is_due linked.now s }
 {
-    all_of(
-        parts.rest.is_stopped(),
-        root_owns(parts),
-        ends_all_here(parts, linked),
-    )
+    // Few steps are behind `stop`: in the others nothing more is looked at.
+    if !parts.rest.is_stopped() {
+        return false;
+    }
+    are_both(root_owns(parts), ends_all_here(parts, linked))
+}
+
+fn are_both(first: bool, second: bool) -> bool
+    ensures { result ≡ (first && second) }
+{
+    first && second
 }
 
 fn all_of(first: bool, second: bool, third: bool) -> bool
@@ -97,12 +103,10 @@ fn is_last_here(parts: &Parts) -> bool
 pub fn pauses(parts: &Parts, linked: &Linked) -> bool
     ensures { (s : State) → Refines (record { image = linked.now; parts = parts.now }) s → result ≡ pauses linked.now s }
 {
-    let waits = all_of(
-        parts.rest.is_stopped(),
-        is_last_here(parts),
-        !is_due(parts, linked),
-    );
-    is_going(parts) && waits
+    if !parts.rest.is_stopped() {
+        return false;
+    }
+    all_of(is_going(parts), is_last_here(parts), !is_due(parts, linked))
 }
 
 /// Whether the run is not over.

@@ -6,9 +6,9 @@
 //! stands for, and that their lines are out (`Sends` of `specs/Sends.antt`, with `DebugSteps` and `Arrives` of `specs/Moves.antt`), or a
 //! beginning of the lines of some moves where the sink failed (`Breaks`).
 //!
-//! `go` goes by these moves one after another: by so many steps, to the end of a dispatch, until a step or a method is over, to a
-//! place, or until what is watched has changed. It stops at breakpoints whose conditions hold (`specs/Stops.antt`). It promises of each course how many steps were made, where they end and that nowhere before was a place to stay (`GoesBy`,
-//! `TurnsOver`, `GoesOver`, `GoesToBreakpoint`, `GoesToPlace` and `GoesToChange` of `specs/RunGoals.antt`); that the run ends with the dispatch that reaches its limit (`ToLimit`); that the lines
+//! `go` goes by these moves one after another: by so many steps or lines of a source, to the end of a dispatch, until a step or a method
+//! is over, to a place, or until what is watched has changed. It stops at breakpoints whose conditions hold (`specs/Stops.antt`). It promises of each course how many steps were made, where they end and that nowhere before was a place to stay (`GoesBy`,
+//! `TurnsOver`, `GoesOver`, `GoesToBreakpoint`, `GoesToPlace`, `GoesToChange` and `GoesLines` of `specs/RunGoals.antt`); that the run ends with the dispatch that reaches its limit (`ToLimit`); that the lines
 //! that went out are those of these moves, or a beginning of the lines of a run where the sink failed; and that just the instructions
 //! that were made are noted, after the latest that were there.
 //!
@@ -24,10 +24,12 @@ mod dispatch;
 mod ends;
 mod laws;
 mod limit;
+mod lining;
 mod next;
 mod over;
 mod run_goals;
 mod runner;
+mod source_lines;
 mod stepping;
 mod walking;
 mod watching;
@@ -42,6 +44,7 @@ pub use next::{next_of, spot_at};
 pub use over::Awaited;
 pub use run_goals::{RunGoal, go};
 pub use runner::Runner;
+pub use source_lines::LineSteps;
 pub use stepping::debug_step;
 pub use walking::{Until, walk};
 pub use watching::Watched;

@@ -9,6 +9,8 @@ ghost use Rattle.aom_debug_stepping.specs.RunGoals.{GoesBy, GoesOn, change_by, r
 
 use crate::dispatch::{DispatchGoal, run_in_dispatch};
 use crate::limit::cut_at_limit;
+use crate::lining::run_lines;
+use crate::source_lines::LineSteps;
 use crate::walking::{Until, is_idle, walk_unless};
 use crate::watching::{Watched, is_local};
 use crate::{Awaited, Runner, arrive, debug_step};
@@ -19,7 +21,7 @@ use aom_transcript::Sink;
 
 /// How far a debugger goes on, if the run does not end before.
 #[derive(Drop)]
-pub enum RunGoal {
+pub enum RunGoal<'a> {
     /// By so many steps.
     Steps(u32),
     /// To the end of the dispatch at hand, or of the next.
@@ -32,6 +34,8 @@ pub enum RunGoal {
     Place(CodeLocation),
     /// Until what is watched has changed, or an instruction with a breakpoint is next, but for where it begins.
     Change(Watched),
+    /// On by so many lines of a source.
+    Lines(LineSteps<'a>),
 }
 
 /// So many steps, or to the end of the run.
@@ -65,7 +69,7 @@ fn resume_run<W: Sink>(
     requires ready { IsReady runner.old }
     ensures agree { AllAgree (λ l. l.ids) (λ l. (⟦<dyn Native as Native>⟧ l.native.vtable).owed l.native.value) runner.new.machine.natives.slots.items }
     ensures keeps { KeepsRunner runner.old runner.new }
-    ensures went { (t : Typing) → IsStrongest runner.old.machine.core.image t → Went (GoesOn runner.old.machine.core.image (outside_of runner.old) (λ s. stays_at t runner.old.machine.core.image until breakpoints.now s) runner.old.recent runner.new.recent) (Reaches runner.old.machine.core.image (outside_of runner.old)) runner.old (W.out out.old) (W.out out.new) (W.failed out.new) result runner.new }
+    ensures went { (t : Typing) → IsStrongest runner.old.machine.core.image t → Went (GoesOn runner.old.machine.core.image (outside_of runner.old) (λ s. stays_at t runner.old.machine.core.image until.entry breakpoints.now s) runner.old.recent runner.new.recent) (Reaches runner.old.machine.core.image (outside_of runner.old)) runner.old (W.out out.old) (W.out out.new) (W.failed out.new) result runner.new }
 {
     let rests = is_idle(&runner.machine);
     let mut progress = walk_unless(rests, runner, &until, breakpoints, out)?;
@@ -110,7 +114,7 @@ fn follow<W: Sink>(
     requires ready { IsReady runner.old }
     ensures agree { AllAgree (λ l. l.ids) (λ l. (⟦<dyn Native as Native>⟧ l.native.vtable).owed l.native.value) runner.new.machine.natives.slots.items }
     ensures keeps { KeepsRunner runner.old runner.new }
-    ensures went { Went (way_of runner.old.machine.core.image (outside_of runner.old) breakpoints.now course runner.old.recent runner.new.recent) (Reaches runner.old.machine.core.image (outside_of runner.old)) runner.old (W.out out.old) (W.out out.new) (W.failed out.new) result runner.new }
+    ensures went { Went (way_of runner.old.machine.core.image (outside_of runner.old) breakpoints.now course.entry runner.old.recent runner.new.recent) (Reaches runner.old.machine.core.image (outside_of runner.old)) runner.old (W.out out.old) (W.out out.new) (W.failed out.new) result runner.new }
 {
     match course {
         RunGoal::Steps(steps) => run_steps(runner, steps, out),
@@ -124,6 +128,7 @@ fn follow<W: Sink>(
         ),
         RunGoal::Place(spot) => resume_run(runner, Until::Place(spot), breakpoints, out),
         RunGoal::Change(watched) => await_change(runner, watched, breakpoints, out),
+        RunGoal::Lines(lines) => run_lines(runner, lines, breakpoints, out),
     }
 }
 
@@ -138,7 +143,7 @@ pub fn go<W: Sink>(
     requires ready { IsReady runner.old }
     ensures agree { AllAgree (λ l. l.ids) (λ l. (⟦<dyn Native as Native>⟧ l.native.vtable).owed l.native.value) runner.new.machine.natives.slots.items }
     ensures keeps { KeepsRunner runner.old runner.new }
-    ensures went { Went (run_goal_of runner.old.machine.core.image (outside_of runner.old) breakpoints.now course runner.old.recent runner.new.recent) (Reaches runner.old.machine.core.image (outside_of runner.old)) runner.old (W.out out.old) (W.out out.new) (W.failed out.new) result runner.new }
+    ensures went { Went (run_goal_of runner.old.machine.core.image (outside_of runner.old) breakpoints.now course.entry runner.old.recent runner.new.recent) (Reaches runner.old.machine.core.image (outside_of runner.old)) runner.old (W.out out.old) (W.out out.new) (W.failed out.new) result runner.new }
 {
     follow(runner, course, breakpoints, out)?;
     Some(cut_at_limit(runner))

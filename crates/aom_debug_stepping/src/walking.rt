@@ -14,6 +14,7 @@ ghost use Rattle.aom_debug_stepping.specs.RunGoals.{WalksThere, WalksUnless, sta
 
 use crate::breaking::is_broken;
 use crate::over::{is_next, is_shallower};
+use crate::source_lines::{LineScope, has_left};
 use crate::watching::{Watched, has_changed};
 use crate::{Runner, debug_step, is_due};
 use aom_debug_protocol::{Breakpoints, CodeLocation};
@@ -24,7 +25,7 @@ use aom_transcript::Sink;
 
 /// Where steps end, if not before.
 #[derive(Drop)]
-pub enum Until {
+pub enum Until<'a> {
     EndOfDispatch,
     Breakpoint,
     /// No more tasks are at hand, or an instruction with a breakpoint is next.
@@ -33,6 +34,8 @@ pub enum Until {
     Place(CodeLocation),
     /// What is watched has changed, or an instruction with a breakpoint is next.
     Change(Watched),
+    /// An instruction is next that is no more of that line, or one with a breakpoint.
+    Line(LineScope<'a>),
 }
 
 /// Whether the root's destruction is due.
@@ -55,6 +58,7 @@ pub fn is_there(machine: &HostedMachine, until: &Until, breakpoints: &Breakpoint
         Until::Change(watched) => {
             has_changed(machine, watched) || is_broken(machine, breakpoints)
         }
+        Until::Line(scope) => has_left(machine, scope) || is_broken(machine, breakpoints),
     }
 }
 

@@ -33,6 +33,10 @@ unnamed = record { classes = []; methods = []; text = []; file = []; source = []
 abbrev pub has_text : NameLists → Bool
 has_text ns = elim ns.methods [ [] ↦ false | _ ∷ _ ↦ true ]
 
+-- it comes of a source, by whose lines places are told
+abbrev pub has_lines : NameLists → Bool
+has_lines ns = elim ns.lines [ [] ↦ false | _ ∷ _ ↦ true ]
+
 -- what is written of a class: its name, or its number
 abbrev pub class_by : NameLists → ℕ → List ℕ
 class_by ns class = class_word ns.classes class
@@ -62,3 +66,7 @@ told ns s = record { line = line_told ns.lines s.line; words = words_told ns.sou
 -- what is told for the statement that holds the instruction at a place
 abbrev pub statement_at : NameLists → CodeLocation → Option Statement
 statement_at ns spot = option_map (told ns) (instruction_statement ns.text spot.method spot.place)
+
+-- the line that is told for it
+abbrev pub line_at : NameLists → CodeLocation → Option ℕ
+line_at ns spot = option_map (λ (s : Statement). line_told ns.lines s.line) (instruction_statement ns.text spot.method spot.place)

@@ -3,10 +3,10 @@ ghost use Rattle.std.specs.Prelude.{◌≡◌, ◌≤◌, ◌^◌, IfSome, decim
 ghost use Rattle.std.specs.List.{position};
 ghost use Rattle.std.specs.Str.{bytes_eq};
 ghost use Rattle.aom_transcript.specs.Naming.{class_word, borrowed};
-ghost use Rattle.aom_debug_symbols.specs.NameLists.{class_by, has_text, method_by, method_named, statement_at, unnamed};
+ghost use Rattle.aom_debug_symbols.specs.NameLists.{class_by, has_lines, has_text, line_at, method_by, method_named, statement_at, unnamed};
 ghost use Rattle.aom_debug_symbols.specs.Lines.{spot_in};
 
-use crate::file::TextFile;
+use crate::file::{TextFile, line_told};
 use crate::lines::spot_in;
 use aom_debug_protocol::CodeLocation;
 use aom_diagnostics::instruction_statement;
@@ -75,6 +75,18 @@ impl<'a> SourceNames<'a> {
         }
     }
 
+    /// The same names.
+    pub fn copy(&self) -> SourceNames<'a>
+        ensures { result ≡ self.now }
+    {
+        SourceNames {
+            classes: self.classes,
+            methods: self.methods,
+            text: self.text,
+            file: self.file,
+        }
+    }
+
     /// There is no text: all is told by numbers.
     pub fn none() -> SourceNames<'a>
         ensures { result ≡ unnamed }
@@ -118,6 +130,14 @@ impl<'a> SourceNames<'a> {
         Some(self.file.told(found))
     }
 
+    /// The line that is told for the instruction at a place.
+    pub fn line(&self, spot: CodeLocation) -> Option<u32>
+        ensures { result ≡ line_at self.now spot }
+    {
+        let found = instruction_statement(self.text, usize::from(spot.method), spot.place)?;
+        Some(line_told(self.file.lines, found.line))
+    }
+
     /// The place of the first instruction that is told to stand in a line, if one is.
     pub(crate) fn spot_in(&self, line: u32) -> Option<CodeLocation>
         ensures { result ≡ spot_in self.now.text self.now.lines line }
@@ -130,6 +150,13 @@ impl<'a> SourceNames<'a> {
         ensures { result.now ≡ self.now.file }
     {
         self.file.name
+    }
+
+    /// Whether the text comes of a source, by whose lines places are told.
+    pub fn has_lines(&self) -> bool
+        ensures { result ≡ has_lines self.now }
+    {
+        !self.file.lines.is_empty()
     }
 
     /// Whether there is a text.

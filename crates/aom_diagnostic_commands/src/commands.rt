@@ -1,13 +1,14 @@
 //! One call for each command, over a program and a way to tell what it has to tell.
 ghost use Rattle.std.specs.Prelude.{◌≡◌, ◌≤◌, [], length};
 ghost use Rattle.aom_natives.specs.Owed.{OweNothing};
-ghost use Rattle.aom_commands.specs.Explored.{ExploreAnswers};
+ghost use Rattle.aom_commands.specs.Explored.{ExploreAnswers, ExploreAnswersOf};
 ghost use Rattle.aom_commands.specs.Headline.{IsSilent, RunAnswersBy, Sends, over};
 ghost use Rattle.aom_commands.specs.Prices.{ChecksBy};
 ghost use Rattle.aom_commands.specs.Translations.{DrawsBy};
 ghost use Rattle.aom_commands.specs.Unreported.{Unreported};
 ghost use Rattle.aom_debug.specs.Answers.{DebugAnswersBy};
 ghost use Rattle.aom_debug.specs.SessionLoop.{IsUnread, reading};
+ghost use Rattle.aom_fault_injection.specs.Expected.{exploration_of};
 ghost use Rattle.aom_diagnostic_commands.specs.Debugged.{debug_names};
 ghost use Rattle.aom_diagnostic_commands.specs.EachMethod.{AnswersAll};
 ghost use Rattle.aom_diagnostic_commands.specs.Naming.{line_in};
@@ -22,10 +23,10 @@ use crate::naming::{try_check_told, try_draw_told, try_run_told};
 use crate::program::{LoadedProgram, Program};
 use crate::telling::Telling;
 use crate::warned::warned_text;
-use aom_commands::{ExitStatus, Fault, explore_bytes};
+use aom_commands::{ExitStatus, Fault, explore_bytes_with};
 use aom_debug::Reader;
 use aom_debug_symbols::TextFile;
-use aom_fault_injection::Tries;
+use aom_fault_injection::{ExploreOptions, Tries};
 use aom_natives::{Native, NativeKind};
 use aom_transcript::{Sink, write_text};
 use std::alloc::Global;
@@ -145,14 +146,33 @@ pub fn explore<W: Sink, E: Sink>(
     requires limit { (1 ≤ limit) × (limit ≤ 1000000000) }
     ensures { Answers Plain program.entry [] (W.out out.new ≡ W.out out.old) (λ image text. ExploreAnswers image script.now limit (length kinds.now) tries (over W.out W.failed out.old out.new)) (over E.out E.failed errors.old errors.new) result }
 {
+    let options = ExploreOptions::of_tries(tries);
+    explore_with(alloc, program, script, limit, kinds, options, out, errors)
+}
+
+/// Explores as `explore` does, tells the run as it is too where that is asked, and judges how the runs that are told ended where some ends are expected.
+/// The status is `Unfinished` where one has ended otherwise.
+pub fn explore_with<W: Sink, E: Sink>(
+    alloc: Global,
+    program: Program<'_>,
+    script: &[u8],
+    limit: u32,
+    kinds: &[NativeKind],
+    options: ExploreOptions<'_>,
+    out: &mut W,
+    errors: &mut E,
+) -> ExitStatus
+    requires limit { (1 ≤ limit) × (limit ≤ 1000000000) }
+    ensures { Answers Plain program.entry [] (W.out out.new ≡ W.out out.old) (λ image text. ExploreAnswersOf image script.now limit (length kinds.now) (exploration_of options.entry) (over W.out W.failed out.old out.new)) (over E.out E.failed errors.old errors.new) result }
+{
     match program.load(alloc) {
-        Ok(loaded) => explore_bytes(
+        Ok(loaded) => explore_bytes_with(
             alloc,
             loaded.image(),
             script,
             limit,
             kinds,
-            tries,
+            options,
             out,
             errors,
         ),

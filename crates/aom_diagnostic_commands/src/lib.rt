@@ -1,6 +1,6 @@
 //! One call for each command, over a program: an image, a text, or an image beside its text.
 //!
-//! `check`, `run`, `explore`, `debug`, `asm` and `dot` take a `Program` and, where a fault can be told in more than one way, a `Telling`. They
+//! `check`, `run`, `explore`, `explore_with`, `debug`, `asm` and `dot` take a `Program` and, where a fault can be told in more than one way, a `Telling`. They
 //! promise `Answers` of `specs/Programs.antt`: the program has an image, and the call answers of it as the command of `aom_commands` does; or
 //! the text is refused, nothing else is done, and that is told. `check_all` tells the first fault of each method that the verifier refuses,
 //! and promises `AnswersAll` of `specs/EachMethod.antt`. `warn` tells the warnings of an image, and
@@ -32,7 +32,7 @@ mod with_text;
 mod wrong;
 
 pub use aom_debug_symbols::TextFile;
-pub use commands::{asm, check, check_all, debug, dot, explore, run, warn};
+pub use commands::{asm, check, check_all, debug, dot, explore, explore_with, run, warn};
 pub use program::Program;
 pub use script_warned::warn_script;
 pub use telling::Telling;

@@ -1,3 +1,4 @@
 pub mod Injections
 pub mod Planned
+pub mod Expected
 pub mod OutcomeTables

@@ -42,6 +42,11 @@ abbrev pub left_text : Option Injection → List ℕ
 left_text None = []
 left_text (Some injection) = ended (codes "untried from " ++ injection_text injection)
 
+-- how many runs did not end as expected, where that was asked
+abbrev pub unexpected_text : Option ℕ → List ℕ
+unexpected_text None = []
+unexpected_text (Some count) = ended (codes "unexpected " ++ decimal count)
+
 -- the closing lines
-abbrev pub closing_text : Option Injection → OutcomeCounts → List ℕ
-closing_text left outcome_counts = left_text left ++ summary_text outcome_counts
+abbrev pub closing_text : Option Injection → OutcomeCounts → (unexpected : Option ℕ) → List ℕ
+closing_text left outcome_counts unexpected = left_text left ++ summary_text outcome_counts ++ unexpected_text unexpected

@@ -1,6 +1,7 @@
 //! How runs ended.
-ghost use Rattle.std.specs.Prelude.{◌≡◌, ◌+◌, ◌<◌, ◌≤◌, ◌-◌, ◌^◌, ◌++◌, length};
-ghost use Rattle.aom_fault_injection.specs.OutcomeTables.{closing_text, counted, nothing_counted, summary_text};
+ghost use Rattle.std.specs.Prelude.{◌≡◌, ◌+◌, ◌<◌, ◌≤◌, ◌-◌, ◌^◌, ◌++◌, decimal, length};
+ghost use Rattle.aom_transcript.specs.Text.{ended};
+ghost use Rattle.aom_fault_injection.specs.OutcomeTables.{closing_text, counted, nothing_counted, summary_text, unexpected_text};
 
 use crate::Injection;
 use aom_transcript::{Ending, Text};
@@ -63,9 +64,9 @@ impl OutcomeCounts {
         }
     }
 
-    /// The closing lines: the first pair that was left out, if there is one, and what was counted.
-    pub fn closing(&self, left: Option<Injection>) -> Closing
-        ensures { result ≡ closing_text left self.now }
+    /// The closing lines: the first pair that was left out, if there is one, what was counted, and how many did not end as expected, if that is asked.
+    pub fn closing(&self, left: Option<Injection>, unexpected: Option<usize>) -> Closing
+        ensures { result ≡ closing_text left self.now unexpected }
     {
         let mut text = Closing::new();
         if let Some(injection) = left {
@@ -74,13 +75,15 @@ impl OutcomeCounts {
             text.add(b"\n");
         }
         self.add_to(&mut text);
+        add_unexpected(unexpected, &mut text);
         text
     }
 
     /// Adds what was counted.
     fn add_to(&self, text: &mut Closing)
         requires { length text.old ≤ 54 }
-        ensures { text.new ≡ text.old ++ summary_text self.now }
+        ensures text { text.new ≡ text.old ++ summary_text self.now }
+        ensures short { length text.new ≤ length text.old + 165 }
     {
         text.add_count(b"tries ", self.tries);
         text.add_count(b" stopped ", self.stopped);
@@ -90,4 +93,23 @@ impl OutcomeCounts {
         text.add_count(b" error ", self.error);
         text.add(b"\n");
     }
+}
+
+/// Adds how many runs did not end as expected, if that is asked.
+fn add_unexpected(unexpected: Option<usize>, text: &mut Closing)
+    requires { length text.old ≤ 219 }
+    ensures { text.new ≡ text.old ++ unexpected_text unexpected }
+{
+    if let Some(count) = unexpected {
+        add_line(b"unexpected ", count, text);
+    }
+}
+
+/// Adds words and a number, and ends the line.
+fn add_line(words: &[u8], count: usize, text: &mut Closing)
+    requires { length text.old + length words.now + 21 ≤ 256 }
+    ensures { text.new ≡ text.old ++ ended (words.now ++ decimal count) }
+{
+    text.add_count(words, count);
+    text.add(b"\n");
 }

@@ -7,7 +7,7 @@ function __aom_arguments
     set -e words[1 2]
     while set -q words[1]
         switch $words[1]
-            case --from --limit --text --to --tries
+            case --expect --from --limit --text --to --tries
                 set -e words[1]
             case '-*'
             case '*'
@@ -62,6 +62,8 @@ complete -c aom -n '__fish_seen_subcommand_from explore' -l kills -d 'Also kills
 complete -c aom -n '__fish_seen_subcommand_from explore' -l deaths -d 'Also lets each client of the script die in turn, at each of these times'
 complete -c aom -n '__fish_seen_subcommand_from explore' -l pairs -d 'Also refuses two requests for memory in one run, each pair in turn'
 complete -c aom -n '__fish_seen_subcommand_from explore' -l tries -d 'The most pairs that --pairs tries' -x
+complete -c aom -n '__fish_seen_subcommand_from explore' -l base -d 'Also tells how the run as it is ends, before all others'
+complete -c aom -n '__fish_seen_subcommand_from explore' -l expect -d 'An end that is expected: stopped, waiting, left, limit, error, or a last line'\''s words; runs that end otherwise are marked and counted' -x
 complete -c aom -n '__fish_seen_subcommand_from explore' -l text -d 'The text that the image was made of, to tell things by its names and lines' -r -k -a '(__fish_complete_suffix .aom)'
 complete -c aom -n '__fish_seen_subcommand_from explore' -l asm -d 'Takes an assembly text in place of the image, and assembles it first'
 complete -c aom -n '__fish_seen_subcommand_from explore' -l source -d 'Takes a source in place of the image, and compiles it first'

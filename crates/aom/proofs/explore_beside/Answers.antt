@@ -2,5 +2,5 @@
 use Rattle.std.proofs.Common.{rules}
 use Rattle.aom.proofs.explore_beside.Goals as goal
 
-pub explore-requires : goal.explore-requires
-explore-requires g c = search rules
+pub explore_with-requires : goal.explore_with-requires
+explore_with-requires g c = search rules

@@ -21,6 +21,10 @@ returns c =
     c.pairs_arg.ensures.own in
     let tries = next c.tries_arg.result _ _ c.with_arg-command-5.result c.with_arg-command-6.result c.with_arg-command-6.ensures pairs c.tries_arg.ensures.rule
     c.tries_arg.ensures.own in
-    let text = next c.text_arg.result _ _ c.with_arg-command-6.result c.with_arg-command-7.result c.with_arg-command-7.ensures tries c.text_arg.ensures.rule
+    let base = next c.base_arg.result _ _ c.with_arg-command-6.result c.with_arg-command-7.result c.with_arg-command-7.ensures tries c.base_arg.ensures.rule
+    c.base_arg.ensures.own in
+    let expect = next c.expect_arg.result _ _ c.with_arg-command-7.result c.with_arg-command-8.result c.with_arg-command-8.ensures base
+    c.expect_arg.ensures.rule c.expect_arg.ensures.own in
+    let text = next c.text_arg.result _ _ c.with_arg-command-8.result c.with_arg-command-9.result c.with_arg-command-9.ensures expect c.text_arg.ensures.rule
     c.text_arg.ensures.own in
     c.with_files.ensures _ text

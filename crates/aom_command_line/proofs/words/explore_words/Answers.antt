@@ -8,4 +8,4 @@ pub returns-clause-asks : goal.returns-clause-asks
 returns-clause-asks c =
     let rows = rows_of (found_of c.args.own.now) in
     let named = subst (λ kind. AsksText rows true kind c.in_ok-text_of.field-0) (sym c.in_ok-run_words.ensures.kind) c.in_ok-text_of.ensures.asks in
-    (refl, c.in_ok-run_words.ensures.asks, c.tries_words.ensures, named)
+    (refl, c.in_ok-run_words.ensures.asks, c.tries_words.ensures, c.is_set.ensures, c.in_ok-expected.ensures.said, named)

@@ -1,9 +1,5 @@
--- The accepted image is the one that the bytes spell.
-use Rattle.std.proofs.Common.{length}
-use Rattle.aom_commands.proofs.Reporting.{explores}
-use Rattle.aom_commands.proofs.Untelling.{answered}
+-- The tries alone are asked for.
 use Rattle.aom_commands.proofs.exploring.explore_bytes.Goals as goal
 
-pub returns-in-Ok : goal.returns-in-Ok
-returns-in-Ok g c = explores c.args.image.now c.args.script.now c.args.limit (length c.args.kinds.now) c.args.tries _ _ c.answer.result
-    (answered _ c.explore_text-found.result _ c.answer.result (c.explore_text-found.ensures c.args.image.now c.in-Ok.ensures.ok.0) c.answer.ensures)
+pub returns : goal.returns
+returns g c = rw c.of_tries-options.ensures at c.explore_bytes_with.ensures

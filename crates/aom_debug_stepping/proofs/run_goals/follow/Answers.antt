@@ -1,7 +1,7 @@
 -- Each course by its own; where it stops at breakpoints, by the strongest typing.
 use Rattle.aom_semantics.specs.State.{State}
 use Rattle.aom_semantics.specs.World.{Reaches}
-use Rattle.aom_debug_stepping.specs.RunGoals.{GoesOn, InDispatch, WalksOver, change_by, stays_at}
+use Rattle.aom_debug_stepping.specs.RunGoals.{GoesLines, GoesOn, InDispatch, WalksOver, change_by, stays_at}
 use Rattle.aom_debug_stepping.specs.Runners.{outside_of}
 use Rattle.aom_debug_stepping.specs.Stops.{is_local}
 use Rattle.aom_debug_stepping.specs.declared.walking.Until.TheVariants.{Breakpoint, Place}
@@ -84,6 +84,26 @@ returns-in-Change-clause-went g c =
     let n = c.await_change.new.runner in
     rw c.in-Change.is (went_typed (λ t. change_by (is_local w.variable) t p (outside_of a) w c.args.breakpoints.now) (Reaches p (outside_of a)) a n
     c.requires.ready.stands a.recent n.recent _ _ _ c.await_change.result c.await_change.ensures.went)
+
+pub returns-in-Lines-clause-went : goal.returns-in-Lines-clause-went
+returns-in-Lines-clause-went g c =
+    let a = c.args.runner.now in
+    let p = a.machine.core.image in
+    let n = c.run_lines.new.runner in
+    rw c.in-Lines.is (went_typed (λ t. GoesLines t p (outside_of a) c.args.breakpoints.now c.in-Lines.lines) (Reaches p (outside_of a)) a n
+    c.requires.ready.stands a.recent n.recent _ _ _ c.run_lines.result c.run_lines.ensures.went)
+
+pub returns-in-Lines-clause-agree : goal.returns-in-Lines-clause-agree
+returns-in-Lines-clause-agree g c = c.run_lines.ensures.agree
+
+pub returns-in-Lines-clause-keeps : goal.returns-in-Lines-clause-keeps
+returns-in-Lines-clause-keeps g c = c.run_lines.ensures.keeps
+
+pub run_lines-requires-clause-agree : goal.run_lines-requires-clause-agree
+run_lines-requires-clause-agree g c = c.requires.agree
+
+pub run_lines-requires-clause-ready : goal.run_lines-requires-clause-ready
+run_lines-requires-clause-ready g c = c.requires.ready
 
 pub returns-in-Change-clause-agree : goal.returns-in-Change-clause-agree
 returns-in-Change-clause-agree g c = c.await_change.ensures.agree

@@ -16,6 +16,36 @@ returns-in-Step-clause-keeps g c = c.step.ensures.keeps
 pub returns-in-Step-clause-answer : goal.returns-in-Step-clause-answer
 returns-in-Step-clause-answer g c = rw c.in-Step.is c.step.ensures.answer
 
+pub machine_step-requires-clause-agree : goal.machine_step-requires-clause-agree
+machine_step-requires-clause-agree g c = c.requires.agree
+
+pub machine_step-requires-clause-ready : goal.machine_step-requires-clause-ready
+machine_step-requires-clause-ready g c = c.requires.ready
+
+pub returns-in-MachineStep-clause-agree : goal.returns-in-MachineStep-clause-agree
+returns-in-MachineStep-clause-agree g c = c.machine_step.ensures.agree
+
+pub returns-in-MachineStep-clause-keeps : goal.returns-in-MachineStep-clause-keeps
+returns-in-MachineStep-clause-keeps g c = c.machine_step.ensures.keeps
+
+pub returns-in-MachineStep-clause-answer : goal.returns-in-MachineStep-clause-answer
+returns-in-MachineStep-clause-answer g c = rw c.in-MachineStep.is c.machine_step.ensures.answer
+
+pub next-requires-clause-agree : goal.next-requires-clause-agree
+next-requires-clause-agree g c = c.requires.agree
+
+pub next-requires-clause-ready : goal.next-requires-clause-ready
+next-requires-clause-ready g c = c.requires.ready
+
+pub returns-in-Next-clause-agree : goal.returns-in-Next-clause-agree
+returns-in-Next-clause-agree g c = c.next.ensures.agree
+
+pub returns-in-Next-clause-keeps : goal.returns-in-Next-clause-keeps
+returns-in-Next-clause-keeps g c = c.next.ensures.keeps
+
+pub returns-in-Next-clause-answer : goal.returns-in-Next-clause-answer
+returns-in-Next-clause-answer g c = rw c.in-Next.is c.next.ensures.answer
+
 pub turn-requires-clause-agree : goal.turn-requires-clause-agree
 turn-requires-clause-agree g c = c.requires.agree
 
@@ -202,14 +232,14 @@ over-requires-clause-agree g c = c.requires.agree
 pub over-requires-clause-ready : goal.over-requires-clause-ready
 over-requires-clause-ready g c = c.requires.ready
 
-pub returns-in-Next-clause-agree : goal.returns-in-Next-clause-agree
-returns-in-Next-clause-agree g c = c.over.ensures.agree
+pub returns-in-MachineNext-clause-agree : goal.returns-in-MachineNext-clause-agree
+returns-in-MachineNext-clause-agree g c = c.over.ensures.agree
 
-pub returns-in-Next-clause-keeps : goal.returns-in-Next-clause-keeps
-returns-in-Next-clause-keeps g c = c.over.ensures.keeps
+pub returns-in-MachineNext-clause-keeps : goal.returns-in-MachineNext-clause-keeps
+returns-in-MachineNext-clause-keeps g c = c.over.ensures.keeps
 
-pub returns-in-Next-clause-answer : goal.returns-in-Next-clause-answer
-returns-in-Next-clause-answer g c = rw c.in-Next.is c.over.ensures.answer
+pub returns-in-MachineNext-clause-answer : goal.returns-in-MachineNext-clause-answer
+returns-in-MachineNext-clause-answer g c = rw c.in-MachineNext.is c.over.ensures.answer
 
 pub over-requires-in-Finish-clause-agree : goal.over-requires-in-Finish-clause-agree
 over-requires-in-Finish-clause-agree g c = c.requires.agree
