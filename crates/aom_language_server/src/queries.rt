@@ -2,7 +2,6 @@
 ghost use Rattle.std.specs.Prelude.{◌≡◌, ◌≢◌, ◌^◌, IfOk, option_map};
 ghost use Rattle.serde_json.specs.View.{view};
 ghost use Rattle.aom_source_tokens.specs.declared.fault.TokenFaultKind.TheVariants.{OutOfMemory};
-ghost use Rattle.aom_language_answers.specs.OpenDocuments.{text_of};
 ghost use Rattle.aom_language_server.specs.Queries.{IsFound, IsFoundAt, IsFoundIn, IsRenaming, new_name_said, position_asked, query_of, unread};
 ghost use Rattle.aom_language_server.specs.Telling.{up_to};
 

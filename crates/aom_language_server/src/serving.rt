@@ -1,6 +1,5 @@
 //! A session over a reader and a sink.
 ghost use Rattle.std.specs.Prelude.{◌≡◌, ◌++◌, IfOk, List, OnOk, Some, false, option_map, take, ℕ};
-ghost use Rattle.aom_message_framing.specs.Frames.{frame_text};
 ghost use Rattle.aom_language_server.specs.Sessions.{Wrote, WroteBeginning, WroteFrames, end_of};
 
 use crate::server::{Answers, Server};
