@@ -3,7 +3,7 @@ ghost use Rattle.std.specs.Prelude.{◌≡◌, [], option_map, unwrap_or};
 ghost use Rattle.aom.specs.Files.{IsProgramOf};
 
 use aom_command_line::FileKind;
-use aom_diagnostic_commands::{Program, TextFile};
+use aom_diagnostic_commands::{LocalName, Program, TextFile};
 use aom_host::{ReadError, read_file};
 use aom_source_commands::{Judged, LinedText, accept_source};
 
@@ -34,11 +34,12 @@ pub fn compiled<'a>(
     }
 }
 
-/// A source, and the line of it that each line of the text comes of that it is compiled to.
+/// A source, the line of it that each line of the text comes of that it is compiled to, and the names that registers have in that.
 #[derive(Drop)]
 pub struct SourceFile {
     pub bytes: Vec<u8>,
     pub lines: Vec<u32>,
+    pub locals: Vec<LocalName>,
 }
 
 /// The bytes of a program's file, or the text that it is compiled to, and the bytes of the text that is named beside it.
@@ -66,12 +67,20 @@ impl ProgramFiles {
         let bytes = read_file(rt, file)?;
         Ok(match kind {
             FileKind::Source => {
-                let LinedText { text: file, lines } = compiled(rt, file, &bytes)?;
+                let LinedText {
+                    text: file,
+                    lines,
+                    locals,
+                } = compiled(rt, file, &bytes)?;
                 ProgramFiles {
                     file,
                     asm: true,
                     text,
-                    source: Some(SourceFile { bytes, lines }),
+                    source: Some(SourceFile {
+                        bytes,
+                        lines,
+                        locals,
+                    }),
                 }
             }
             FileKind::Assembly => ProgramFiles {
@@ -89,17 +98,19 @@ impl ProgramFiles {
         })
     }
 
-    /// The file of that name, in which the program's text is told to be: by the lines of its source, where it has one.
+    /// The file of that name, in which the program's text is told to be: by the lines and the names of its source, where it has one.
     pub fn text_file<'a>(&'a self, name: &'a [u8]) -> TextFile<'a>
         ensures name { result.name.now ≡ name.now }
         ensures source { result.source.now ≡ unwrap_or (option_map (λ s. s.bytes.items) self.now.source) [] }
         ensures lines { result.lines.now ≡ unwrap_or (option_map (λ s. s.lines.items) self.now.source) [] }
+        ensures locals { result.locals.now ≡ unwrap_or (option_map (λ s. s.locals.items) self.now.source) [] }
     {
         match &self.source {
             Some(source) => TextFile {
                 name,
                 source: &source.bytes,
                 lines: &source.lines,
+                locals: &source.locals,
             },
             None => TextFile::own(name),
         }

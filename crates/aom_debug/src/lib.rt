@@ -29,7 +29,7 @@ mod unbreaking;
 mod watching;
 
 pub use aom_debug_stepping::{Awaited, Runner, Sink};
-pub use aom_debug_symbols::{SourceNames, TextFile};
+pub use aom_debug_symbols::{LocalName, SourceNames, TextFile};
 pub use aom_debug_views::{Holding, Owner, report};
 pub use aom_transcript::Reader;
 pub use debugger::Debugger;

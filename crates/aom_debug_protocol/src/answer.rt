@@ -80,8 +80,8 @@ pub enum Answer {
     Break(Breakpoint),
     /// Where a method at hand stands.
     Frame(CodeLocation),
-    /// What a register of it has.
-    Register(u8, Content),
+    /// What a register of it has, where it stands there.
+    Register(CodeLocation, u8, Content),
     /// How many rounds are left of a loop of it.
     Loop(u8, u16),
     /// An instruction that ran.

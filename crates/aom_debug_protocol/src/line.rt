@@ -50,7 +50,7 @@ fn add_answer(line: &mut AnswerLine, answer: Answer)
         Answer::Timer(class, due) => add_timer(line, class, due),
         Answer::Break(breakpoint) => add_break(line, breakpoint),
         Answer::Frame(spot) => add_two(line, spot.method, spot.place),
-        Answer::Register(register, content) => add_register(line, register, content),
+        Answer::Register(_, register, content) => add_register(line, register, content),
         Answer::Loop(number, rounds) => add_loop(line, number, rounds),
         Answer::Ran(spot) => add_two(line, spot.method, spot.place),
         Answer::Word(number, word) => add_word(line, number, word),

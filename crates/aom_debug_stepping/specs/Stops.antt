@@ -27,7 +27,7 @@ use Rattle.aom_debug_stepping.specs.declared.watching.Watched.{Watched}
 
 -- the word that an answer tells of a register
 abbrev pub word_in : Option Answer → Option ℤ
-word_in (Some (Register i (contents.Word w))) = Some w
+word_in (Some (Register spot i (contents.Word w))) = Some w
 word_in _ = None
 
 -- of what is no word nothing holds
@@ -65,7 +65,7 @@ same_content _ _ = false
 
 -- one variable has the same by two answers
 abbrev pub same_value : Answer → Answer → Bool
-same_value (Register i a) (Register j b) = same_content a b
+same_value (Register spot i a) (Register there j b) = same_content a b
 same_value (Word i a) (Word j b) = int_eq a b
 same_value _ _ = false
 

@@ -19,7 +19,7 @@ fn word_in(answer: Option<Answer>) -> Option<i32>
     ensures { result ≡ word_in answer }
 {
     match answer {
-        Some(Answer::Register(_, Content::Word(word))) => Some(word),
+        Some(Answer::Register(_, _, Content::Word(word))) => Some(word),
         _ => None,
     }
 }

@@ -54,7 +54,7 @@ fn is_same_value(one: Answer, other: Answer) -> bool
     ensures { result ≡ same_value one other }
 {
     match (one, other) {
-        (Answer::Register(_, one), Answer::Register(_, other)) => is_same_content(one, other),
+        (Answer::Register(_, _, one), Answer::Register(_, _, other)) => is_same_content(one, other),
         (Answer::Word(_, one), Answer::Word(_, other)) => one == other,
         _ => false,
     }

@@ -15,7 +15,7 @@ use Rattle.aom_debug_protocol.specs.declared.answer.Answer.{Answer}
 use Rattle.aom_debug_protocol.specs.declared.answer.Answer.TheVariants.{At, Fault, Gone, OfClass, Object, Operation, Active, Server, Timer, Break, Frame, Register, Ran}
 use Rattle.aom_debug_protocol.specs.declared.fault.DebugFault.{DebugFault}
 use Rattle.aom_debug_protocol.specs.declared.fault.DebugFault.TheVariants.{BadCommand, NoSuch, Ended, OutOfMemory, WriteFault, NotThere}
-use Rattle.aom_debug_symbols.specs.NameLists.{NameLists, class_by, has_text, method_by, statement_at}
+use Rattle.aom_debug_symbols.specs.NameLists.{NameLists, class_by, has_text, method_by, register_by, statement_at}
 
 -- a method and a place
 abbrev pub place_by : NameLists → CodeLocation → List ℕ
@@ -67,7 +67,7 @@ head_by ns (Server class priority queued) = server_by ns class priority queued
 head_by ns (Timer class due) = class_by ns class ++ codes " " ++ decimal due
 head_by ns (Break b) = codes "break " ++ place_by ns b.spot ++ condition_text b.condition
 head_by ns (Frame spot) = place_by ns spot
-head_by ns (Register i content) = codes "r" ++ decimal i ++ content_by ns content
+head_by ns (Register spot i content) = register_by ns spot i ++ content_by ns content
 head_by ns (Ran spot) = place_by ns spot
 head_by ns (Fault fault) = fault_by (has_text ns) fault
 head_by ns answer = answer_text answer
@@ -80,7 +80,7 @@ reports_class (Object class) = true
 reports_class (Active class priority phase status) = true
 reports_class (Server class priority queued) = true
 reports_class (Timer class due) = true
-reports_class (Register i content) = true
+reports_class (Register spot i content) = true
 reports_class answer = false
 
 -- ---- and ends with

@@ -1,5 +1,6 @@
 -- The names and the lines of a program's text, by the numbers of its image.
-use Rattle.std.specs.Prelude.{ℕ, ◌-◌, Bool, true, false, List, [], ◌∷◌, Option, get_or, option_map}
+use Rattle.std.specs.Prelude.{ℕ, ◌-◌, ◌==◌, ◌&&◌, nat_le, nat_lt, if◌then◌else◌, Bool, true, false, List, [], ◌∷◌, ◌++◌, Option, Some, None, codes, decimal, find, get_or, length}
+use Rattle.std.specs.Prelude.{option_map}
 use Rattle.std.specs.List.{position}
 use Rattle.std.specs.Str.{bytes_eq}
 use Rattle.aom_text.specs.Text.{lines_of}
@@ -8,10 +9,11 @@ use Rattle.aom_text.specs.declared.text.Statement.{Statement}
 use Rattle.aom_diagnostics.specs.Declarations.{class_names, instruction_statement, method_names}
 use Rattle.aom_transcript.specs.Naming.{class_word}
 use Rattle.aom_debug_protocol.specs.declared.spot.CodeLocation.{CodeLocation}
+use Rattle.aom_debug_symbols.specs.declared.file.LocalName.{LocalName}
 use Rattle.aom_debug_symbols.specs.declared.file.TextFile.{TextFile}
 
 -- the names of classes and of methods, that of number 0 first, the text in which they stand, and the name of its file; where that text comes of a source, the
--- source, and the line of it that each line of the text comes of
+-- source, the line of it that each line of the text comes of, and the names that registers have in it
 pub record NameLists : Type 0 where
   pub classes : List (List ℕ)
   pub methods : List (List ℕ)
@@ -19,15 +21,16 @@ pub record NameLists : Type 0 where
   pub file : List ℕ
   pub source : List ℕ
   pub lines : List ℕ
+  pub locals : List LocalName
 
 -- those of a text in that file
 abbrev pub names_in : TextFile → (text : List ℕ) → NameLists
 names_in file text =
-    record { classes = class_names text; methods = method_names text; text = text; file = file.name.now; source = file.source.now; lines = file.lines.now }
+    record { classes = class_names text; methods = method_names text; text = text; file = file.name.now; source = file.source.now; lines = file.lines.now; locals = file.locals.now }
 
 -- there is no text
 abbrev pub unnamed : NameLists
-unnamed = record { classes = []; methods = []; text = []; file = []; source = []; lines = [] }
+unnamed = record { classes = []; methods = []; text = []; file = []; source = []; lines = []; locals = [] }
 
 -- there is a text
 abbrev pub has_text : NameLists → Bool
@@ -70,3 +73,30 @@ statement_at ns spot = option_map (told ns) (instruction_statement ns.text spot.
 -- the line that is told for it
 abbrev pub line_at : NameLists → CodeLocation → Option ℕ
 line_at ns spot = option_map (λ (s : Statement). line_told ns.lines s.line) (instruction_statement ns.text spot.method spot.place)
+
+-- ---- registers
+
+-- a register has that name in that line of the text, which counts from 1
+abbrev pub names_register : (line register : ℕ) → LocalName → Bool
+names_register line register l = ((l.register == register) && nat_lt l.from line) && nat_le line l.to
+
+-- the first name that it has there
+abbrev pub local_in : List LocalName → (line register : ℕ) → Option (List ℕ)
+local_in locals line register = option_map (λ (l : LocalName). l.name.items) (find (names_register line register) locals)
+
+-- in the line of a statement
+abbrev pub local_of : List LocalName → (register : ℕ) → Option Statement → Option (List ℕ)
+local_of locals register None = None
+local_of locals register (Some s) = local_in locals s.line register
+
+-- where the instruction at a place stands
+abbrev pub local_at : NameLists → CodeLocation → (register : ℕ) → Option (List ℕ)
+local_at ns spot register = local_of ns.locals register (instruction_statement ns.text spot.method spot.place)
+
+-- what is written of a register: its name or, where it has none or one that is longer than a name can be, `r` and its number
+abbrev pub register_word : ℕ → Option (List ℕ) → List ℕ
+register_word register None = codes "r" ++ decimal register
+register_word register (Some name) = if nat_lt 32 (length name) then codes "r" ++ decimal register else name
+
+abbrev pub register_by : NameLists → CodeLocation → ℕ → List ℕ
+register_by ns spot register = register_word register (local_at ns spot register)

@@ -4,7 +4,7 @@ ghost use Rattle.std.specs.Fmt.{signed_decimal};
 ghost use Rattle.aom_debug_protocol.specs.Answers.{answer_text};
 ghost use Rattle.aom_debug_protocol.specs.Conditions.{condition_text};
 ghost use Rattle.aom_debug_protocol.specs.declared.answer.Answer.TheVariants.{Fault};
-ghost use Rattle.aom_debug_symbols.specs.NameLists.{class_by, method_by};
+ghost use Rattle.aom_debug_symbols.specs.NameLists.{class_by, method_by, register_by};
 ghost use Rattle.aom_debug_symbols.specs.Answers.{active_by, answer_by, content_by, head_by, place_by, reason_text, server_by, observer_by, shown_at, shown_spot as spot_shown, reports_class};
 
 use crate::SourceNames;
@@ -119,6 +119,18 @@ fn add_content(line: &mut NamedLine, names: &SourceNames, content: Content)
     }
 }
 
+/// Adds the name that a register has where an instruction stands or, where it has none there, its number.
+fn add_register(line: &mut NamedLine, names: &SourceNames, spot: CodeLocation, register: u8)
+    requires { line.old ≡ [] }
+    ensures text { line.new ≡ register_by names.now spot register }
+    ensures short { length line.new ≤ 32 }
+{
+    match names.local(spot, register) {
+        Some(name) => line.add(name),
+        None => line.add_count(b"r", register),
+    }
+}
+
 /// Adds words, and a class behind them.
 fn add_of_class(line: &mut NamedLine, names: &SourceNames, words: &[u8], class: u16)
     requires empty { line.old ≡ [] }
@@ -176,8 +188,8 @@ pub fn classed_line(names: &SourceNames, answer: Answer) -> Option<NamedLine>
             add_server(&mut line, names, class, priority, queued);
         }
         Answer::Timer(class, due) => add_counted(&mut line, names, class, due),
-        Answer::Register(register, content) => {
-            line.add_count(b"r", register);
+        Answer::Register(spot, register, content) => {
+            add_register(&mut line, names, spot, register);
             add_content(&mut line, names, content);
         }
         _ => return None,

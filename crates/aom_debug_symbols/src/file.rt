@@ -5,7 +5,16 @@ ghost use Rattle.aom_debug_symbols.specs.NameLists.{line_told, words_told};
 
 use aom_text::{Statement, WordCursor, split_line};
 
-/// The file in which a text is told to be. Where the text comes of a source, that is the source's: places are told by its lines.
+/// The name that a register has in the source, from one line of the text to the one before another. Here lines count from 0.
+#[derive(Drop)]
+pub struct LocalName {
+    pub name: Vec<u8>,
+    pub register: usize,
+    pub from: usize,
+    pub to: usize,
+}
+
+/// The file in which a text is told to be. Where the text comes of a source, that is the source's: places are told by its lines, and registers by its names.
 #[derive(Clone, Copy)]
 pub struct TextFile<'a> {
     pub name: &'a [u8],
@@ -13,6 +22,8 @@ pub struct TextFile<'a> {
     pub source: &'a [u8],
     /// The line of the source, from 1 on, that each line of the text comes of. None, where the text is its author's own.
     pub lines: &'a [u32],
+    /// The names that registers have in the source. None, where the text is its author's own.
+    pub locals: &'a [LocalName],
 }
 
 impl<'a> TextFile<'a> {
@@ -21,11 +32,13 @@ impl<'a> TextFile<'a> {
         ensures name { result.name.now ≡ name.now }
         ensures source { result.source.now ≡ [] }
         ensures lines { result.lines.now ≡ [] }
+        ensures locals { result.locals.now ≡ [] }
     {
         TextFile {
             name,
             source: &[],
             lines: &[],
+            locals: &[],
         }
     }
 

@@ -1,13 +1,14 @@
 //! The names and the lines of a text.
-ghost use Rattle.std.specs.Prelude.{◌≡◌, ◌≤◌, ◌^◌, IfSome, decimal, length, option_map, unwrap_or};
+ghost use Rattle.std.specs.Prelude.{◌≡◌, ◌++◌, ◌≤◌, ◌^◌, IfSome, codes, decimal, length, option_map, unwrap_or};
 ghost use Rattle.std.specs.List.{position};
 ghost use Rattle.std.specs.Str.{bytes_eq};
 ghost use Rattle.aom_transcript.specs.Naming.{class_word, borrowed};
-ghost use Rattle.aom_debug_symbols.specs.NameLists.{class_by, has_lines, has_text, line_at, method_by, method_named, statement_at, unnamed};
+ghost use Rattle.aom_debug_symbols.specs.NameLists.{class_by, has_lines, has_text, line_at, method_by, method_named, register_by, statement_at, unnamed};
 ghost use Rattle.aom_debug_symbols.specs.Lines.{spot_in};
 
 use crate::file::{TextFile, line_told};
 use crate::lines::spot_in;
+use crate::locals::name_in;
 use aom_debug_protocol::CodeLocation;
 use aom_diagnostics::instruction_statement;
 use aom_text::Statement;
@@ -32,7 +33,7 @@ impl<'a> Model for SourceNames<'a> {
 
     ghost Value = { NamesRecord };
 
-    ghost view = { λ n. record { classes = borrowed n.classes.now; methods = borrowed n.methods.now; text = n.text.now; file = n.file.name.now; source = n.file.source.now; lines = n.file.lines.now } };
+    ghost view = { λ n. record { classes = borrowed n.classes.now; methods = borrowed n.methods.now; text = n.text.now; file = n.file.name.now; source = n.file.source.now; lines = n.file.lines.now; locals = n.file.locals.now } };
 
     ghost invariant = { λ n. length n.text.now ≤ 2 ^ 20 };
 }
@@ -65,7 +66,7 @@ impl<'a> SourceNames<'a> {
         file: TextFile<'a>,
     ) -> SourceNames<'a>
         requires { length text.now ≤ 2 ^ 20 }
-        ensures { result ≡ record { classes = borrowed classes.entry.now; methods = borrowed methods.entry.now; text = text.entry.now; file = file.entry.name.now; source = file.entry.source.now; lines = file.entry.lines.now } }
+        ensures { result ≡ record { classes = borrowed classes.entry.now; methods = borrowed methods.entry.now; text = text.entry.now; file = file.entry.name.now; source = file.entry.source.now; lines = file.entry.lines.now; locals = file.entry.locals.now } }
     {
         SourceNames {
             classes,
@@ -136,6 +137,15 @@ impl<'a> SourceNames<'a> {
     {
         let found = instruction_statement(self.text, usize::from(spot.method), spot.place)?;
         Some(line_told(self.file.lines, found.line))
+    }
+
+    /// The name of a register where the instruction at a place stands, where it has one there.
+    pub(crate) fn local(&self, spot: CodeLocation, register: u8) -> Option<&'a [u8]>
+        ensures is { register_by self.now spot register ≡ unwrap_or (option_map (λ n. n.now) result) (codes "r" ++ decimal register) }
+        ensures short { IfSome result (λ name. length name.now ≤ 32) }
+    {
+        let found = instruction_statement(self.text, usize::from(spot.method), spot.place)?;
+        name_in(self.file.locals, found.line, register)
     }
 
     /// The place of the first instruction that is told to stand in a line, if one is.

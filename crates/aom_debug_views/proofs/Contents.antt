@@ -22,17 +22,18 @@ use Rattle.aom_semantics.specs.Places.{Cell, Object, Place, Register, held}
 use Rattle.aom_semantics.specs.State.{Frame, Run, State, Task, word}
 use Rattle.aom_static_bounds.specs.Strongest.{IsShapeAt, IsStrongest}
 use Rattle.aom_machine_state.specs.declared.parts.Parts.{Parts}
-use Rattle.aom_machine_state.specs.Agrees.{number}
+use Rattle.aom_machine_state.specs.Agrees.{SameFrame, number}
 use Rattle.aom_machine_state.specs.Stands.{MachineModel, Stands, Refines}
 use Rattle.aom_debug_views.proofs.MachineInstructionsLemmas.{not_null}
 use Rattle.aom_machine.specs.Agreement.{AgreesInAll}
+use Rattle.aom_debug_protocol.specs.declared.spot.CodeLocation.{CodeLocation}
 use Rattle.aom_debug_protocol.specs.declared.answer.Answer.{Answer}
 use Rattle.aom_debug_protocol.specs.declared.answer.Answer.TheVariants.{Frame as A_frame, Register as A_register}
 use Rattle.aom_debug_protocol.specs.declared.answer.Source.{Source}
 use Rattle.aom_debug_protocol.specs.declared.answer.Content.{Content}
 use Rattle.aom_debug_protocol.specs.declared.answer.Content.TheVariants as contents
 use Rattle.aom_debug_symbols.specs.NameLists.{NameLists}
-use Rattle.aom_debug_views.specs.Frames.{RegisterShows, ShowsFrame, content_by, frame_answers, frame_lines, kind_in, kinds_of, loop_answer, loop_in, receiver_over}
+use Rattle.aom_debug_views.specs.Frames.{RegisterShows, ShowsFrame, content_by, frame_answers, frame_lines, frame_spot, kind_in, kinds_of, loop_answer, loop_in, receiver_over}
 use Rattle.aom_debug_views.specs.Frames.{owned_content, place_in, register_in, trap_by, trap_held, trap_in, trap_under}
 use Rattle.aom_debug_views.specs.Owners.{Shows, ShowsIf, is_frame, may_own, source_at}
 use Rattle.aom_debug_views.specs.CellViews.{class_of}
@@ -134,16 +135,24 @@ module _ (p : Image) (m : Parts) (kind : Kind) (n depth i : ℕ) (shows : Regist
 
 -- ---- lines of a frame that stands there
 
+abbrev pub spot_by : (method place : ℕ) → CodeLocation
+spot_by method place = record { method = method; place = place }
+
+-- a frame stands where that of a state does
+same_spot : (f : Machine_frame) (fr : Frame) → SameFrame f fr → spot_by f.method f.place ≡ frame_spot fr
+same_spot f fr same = ap (λ n. spot_by n f.place) same.method ∙ ap (λ n. spot_by fr.method n) same.place
+
 pub content_reported : (p : Image) (m : Parts) (sh : AbstractState) (f : Machine_frame) (depth i : ℕ) →
     ShowsFrame (record { image = p; parts = m }) sh f depth → (s : State) → Refines (record { image = p; parts = m }) s → (kind : Kind) (n : ℕ) →
     kind ≡ register sh i → n ≡ slice_index_or f.registers i null → (content : Option Content) → ((fr : Frame) → over s.tasks depth ≡ Some (Run fr) →
     RegisterShows (record { image = p; parts = m }) kind n depth i → content ≡ content_by s.cells kind (word fr i) (held s.cells (Register depth i)))
-    → option_map (λ x. A_register i x) content ≡ register_in (λ k. register sh k) s.cells depth (over s.tasks depth) i
+    → option_map (λ x. A_register (spot_by f.method f.place) i x) content ≡ register_in (λ k. register sh k) s.cells depth (over s.tasks depth) i
 content_reported p m sh f depth i shown s st kind n is number_is content reported =
     let fr = shown.there s st in
     let shows = subst (λ k. RegisterShows (record { image = p; parts = m }) k n depth i)
     (sym is) (subst (λ x. RegisterShows (record { image = p; parts = m }) (register sh i) x depth i) (sym number_is) (shown.registers i)) in
-    ap (λ x. option_map (λ y. A_register i y) x) (reported fr.0 fr.1 shows ∙ ap (λ k. content_by s.cells k (word fr.0 i) (held s.cells (Register depth i))) is)
+    ap (λ x. option_map (λ y. A_register (spot_by f.method f.place) i y) x) (reported fr.0 fr.1 shows ∙ ap (λ k. content_by s.cells k (word fr.0 i) (held s.cells (Register depth i))) is)
+    ∙ ap (λ spot. option_map (λ y. A_register spot i y) (content_by s.cells (register sh i) (word fr.0 i) (held s.cells (Register depth i)))) (same_spot f fr.0 fr.2)
     ∙ sym (ap (λ o. register_in (λ k. register sh k) s.cells depth o i) fr.1)
 
 pub loop_reported : (m : MachineModel) (sh : AbstractState) (f : Machine_frame) (depth i : ℕ) → ShowsFrame m sh f depth → (s : State) →

@@ -17,6 +17,7 @@ use Rattle.aom_semantics.specs.Places.{Cell, Object, Register, held, service_of}
 use Rattle.aom_semantics.specs.State.{Frame, Run, State, Task, Trapped, counter, word}
 use Rattle.aom_machine_state.specs.Agrees.{SameFrame, receiver_number}
 use Rattle.aom_machine_state.specs.Stands.{MachineModel, Refines}
+use Rattle.aom_debug_protocol.specs.declared.spot.CodeLocation.{CodeLocation}
 use Rattle.aom_debug_protocol.specs.declared.answer.Answer.{Answer}
 use Rattle.aom_debug_protocol.specs.declared.answer.Answer.TheVariants.{Frame as A_frame, Loop, Register as A_register, Trap}
 use Rattle.aom_debug_protocol.specs.declared.answer.Source.{Source}
@@ -26,6 +27,10 @@ use Rattle.aom_debug_views.specs.Owners.{Shows, ShowsNone, source_in}
 use Rattle.aom_debug_symbols.specs.NameLists.{NameLists}
 use Rattle.aom_debug_views.specs.Seeking.{on_text, path_text}
 use Rattle.aom_debug_views.specs.Reporting.{answers_by, gathered, listed}
+
+-- where a method stands
+abbrev pub frame_spot : Frame → CodeLocation
+frame_spot fr = record { method = fr.method; place = fr.place }
 
 -- ---- registers
 
@@ -47,7 +52,7 @@ content_by cs Word w o = option_map (λ v. contents.Word v) w
 content_by cs kind w o = owned_content cs o
 
 abbrev pub register_in : (ℕ → Kind) → List Cell → ℕ → Option Task → ℕ → Option Answer
-register_in kinds cs depth (Some (Run fr)) i = option_map (λ content. A_register i content) (content_by cs (kinds i) (word fr i) (held cs (Register depth i)))
+register_in kinds cs depth (Some (Run fr)) i = option_map (λ content. A_register (frame_spot fr) i content) (content_by cs (kinds i) (word fr i) (held cs (Register depth i)))
 register_in kinds cs depth _ i = None
 
 -- the first so many
@@ -72,7 +77,7 @@ loops_in o n = gathered (λ i. listed (loop_in o i)) n
 -- ---- where it stands
 
 abbrev pub place_in : Option Task → Option Answer
-place_in (Some (Run fr)) = Some (A_frame (record { method = fr.method; place = fr.place }))
+place_in (Some (Run fr)) = Some (A_frame (frame_spot fr))
 place_in _ = None
 
 -- a trap called it

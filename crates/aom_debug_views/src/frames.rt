@@ -77,6 +77,16 @@ fn content_by(parts: &Parts, kind: Kind, number: u32) -> Option<Content>
     }
 }
 
+/// Where a frame stands.
+fn spot_of(frame: &Frame) -> CodeLocation
+    ensures { result ≡ record { method = frame.now.method; place = frame.now.place } }
+{
+    CodeLocation {
+        method: frame.method.number(),
+        place: frame.place,
+    }
+}
+
 /// A register of a frame, as it is told.
 fn register_answer(
     parts: &Parts,
@@ -90,7 +100,7 @@ fn register_answer(
 {
     let kind = shape.kind_at(register as usize);
     match content_by(parts, kind, frame.register(register)) {
-        Some(content) => Some(Answer::Register(register, content)),
+        Some(content) => Some(Answer::Register(spot_of(frame), register, content)),
         None => None,
     }
 }
@@ -172,11 +182,7 @@ fn report_head<W: Sink>(frame: &Frame, names: &SourceNames, out: &mut W) -> Resu
     ensures ok { IfOk result (λ _. (m : MachineModel) (sh : ShapeRecord) (depth : ℕ) → ShowsFrame m sh frame.now depth → Reports m (λ s. answers_by names.now (listed (place_in (over s.tasks depth)))) (W.out out.old) (W.out out.new)) }
     ensures err { IfErr result (λ fault. (m : MachineModel) (sh : ShapeRecord) (depth : ℕ) → ShowsFrame m sh frame.now depth → ReportsPart m (λ s. answers_by names.now (listed (place_in (over s.tasks depth)))) fault (W.failed out.new) (W.out out.old) (W.out out.new)) }
 {
-    let spot = CodeLocation {
-        method: frame.method.number(),
-        place: frame.place,
-    };
-    report_any_by(names, Some(Answer::Frame(spot)), out)
+    report_any_by(names, Some(Answer::Frame(spot_of(frame))), out)
 }
 
 /// Tells a frame that stands at a depth.

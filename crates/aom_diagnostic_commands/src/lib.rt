@@ -31,7 +31,7 @@ mod warned;
 mod with_text;
 mod wrong;
 
-pub use aom_debug_symbols::TextFile;
+pub use aom_debug_symbols::{LocalName, TextFile};
 pub use commands::{asm, check, check_all, debug, dot, explore, explore_with, run, warn};
 pub use program::Program;
 pub use script_warned::warn_script;

@@ -1,8 +1,8 @@
 //! The debugger: a machine that goes on by commands, and what it tells.
 
 pub use aom_debug::{
-    Awaited, Debugger, Holding, Inspection, Owner, Reader, Runner, SourceNames, TextFile,
-    report_place,
+    Awaited, Debugger, Holding, Inspection, LocalName, Owner, Reader, Runner, SourceNames,
+    TextFile, report_place,
 };
 pub use aom_debug_protocol::{
     Answer, AnswerLine, Branch, Breakpoint, Breakpoints, ClientNumber, CodeLocation, Command,

@@ -1,22 +1,25 @@
 //! What the verifier says of a source: it is asked of the text that the source is compiled to, and told in the source's places.
-ghost use Rattle.std.specs.Prelude.{◌≡◌, IfOk};
+ghost use Rattle.std.specs.Prelude.{◌≡◌, IfOk, map};
 ghost use Rattle.aom_source_tokens.specs.Places.{IsPlaceIn};
-ghost use Rattle.aom_source_commands.specs.Judging.{DenotesAccepted, IsAccepted, IsJudged, lines_in};
+ghost use Rattle.aom_source_commands.specs.Judging.{DenotesAccepted, IsAccepted, IsJudged, as_kept, as_written, lines_in};
 ghost use Rattle.aom_source_commands.specs.Telling.{TellsPlace};
 
 use crate::telling::{tell_over_budget, tell_refusals, tell_translator};
 use aom_budget::{BudgetFault, BudgetOwner};
 use aom_commands::{Fault, accept_bytes, assemble_bytes};
+use aom_debug_symbols::LocalName;
 use aom_source::{Origin, Refusal, Translation, Written, translate};
+use aom_source_code::NamedRegister;
 use aom_source_tokens::{Keyword, Kind, Mark, Place, Tokens};
 use aom_verify::Refusal as VerifyRefusal;
 use std::alloc::{AllocError, Global};
 
-/// An assembly text that comes of a source, and the line of the source that each of its lines comes of. Lines count from 1.
+/// An assembly text that comes of a source, the line of the source that each of its lines comes of, from 1 on, and the names that registers have in them.
 #[derive(Drop)]
 pub struct LinedText {
     pub text: Vec<u8>,
     pub lines: Vec<u32>,
+    pub locals: Vec<LocalName>,
 }
 
 /// What has come of a source that the verifier was asked of: its text, or what its author is told.
@@ -59,8 +62,13 @@ fn judge<'a>(
     match accept_text(alloc, &translation.written.text) {
         Ok(()) => {
             let lines = lines_of(alloc, tokens, &translation.written.origins)?;
+            let locals = locals_of(alloc, &translation.written.names)?;
             let text = translation.into_text();
-            Ok(Judged::Accepted(LinedText { text, lines }))
+            Ok(Judged::Accepted(LinedText {
+                text,
+                lines,
+                locals,
+            }))
         }
         Err(Fault::Memory) => Err(AllocError),
         Err(fault) => {
@@ -83,6 +91,29 @@ fn lines_of(
         lines.push(tokens.get(origin.token as usize).place.line)?;
     }
     Ok(lines)
+}
+
+/// The names of registers, to be kept beside the source.
+fn locals_of(alloc: Global, names: &[NamedRegister<'_>]) -> Result<Vec<LocalName>, AllocError>
+    ensures { IfOk result (λ locals. map as_kept locals.items ≡ map as_written names.now) }
+{
+    let mut locals: Vec<LocalName> = Vec::new(alloc);
+    for named in names {
+        locals.push(local_of(alloc, *named)?)?;
+    }
+    Ok(locals)
+}
+
+fn local_of(alloc: Global, named: NamedRegister<'_>) -> Result<LocalName, AllocError>
+    ensures { IfOk result (λ local. as_kept local ≡ as_written named.entry) }
+{
+    let name = Vec::from_slice(alloc, named.name)?;
+    Ok(LocalName {
+        name,
+        register: named.register,
+        from: named.from,
+        to: named.to,
+    })
 }
 
 /// Whether a text denotes an accepted image.

@@ -9,7 +9,8 @@ use Rattle.aom_transcript.specs.Naming.{borrowed}
 use Rattle.aom_diagnostic_commands.proofs.debugging.try_debug_by_names.Goals as goal
 
 abbrev made : TextFile → (classes methods : List (List ℕ)) → (text : List ℕ) → NameLists
-made file classes methods text = record { classes = classes; methods = methods; text = text; file = file.name.now; source = file.source.now; lines = file.lines.now }
+made file classes methods text =
+    record { classes = classes; methods = methods; text = text; file = file.name.now; source = file.source.now; lines = file.lines.now; locals = file.locals.now }
 
 -- equal parts make equal names
 same_names : (file : TextFile) {cs ds ms ns : List (List ℕ)} {s t : List ℕ} → cs ≡ ds → ms ≡ ns → s ≡ t → made file cs ms s ≡ made file ds ns t

@@ -9,5 +9,5 @@ returns-in-Ok-translate c =
     let made = c.in-Ok-translate.ensures in
     record {
       accepted = IfOk-weaker c.judge.result _ _ (judged c.args.name.now c.args.source.now c.in-Ok.tokens c.in-Ok-translate.translation.written
-          (search rules) (search rules) made.lines made.classes made.methods) c.judge.ensures;
+          (search rules) (search rules) made.lines made.classes made.methods made.names) c.judge.ensures;
     }
