@@ -14,6 +14,7 @@ use Rattle.aom_debug_protocol.specs.declared.fault.DebugFault.{DebugFault}
 use Rattle.aom_debug_protocol.specs.declared.fault.DebugFault.TheVariants.{BadCommand, Ended, NoSuch}
 use Rattle.aom_debug_protocol.specs.declared.fault.DebugFault.TheVariants as faults
 use Rattle.aom_debug_protocol.specs.declared.spot.CodeLocation.{CodeLocation}
+use Rattle.aom_debug_protocol.specs.declared.variable.Variable.{Variable}
 use Rattle.aom_debug_protocol.specs.Marks.{has_spot, is_set, replaced, with_breakpoint}
 use Rattle.aom_debug_protocol.specs.declared.breakpoints.Breakpoint.{Breakpoint}
 use Rattle.aom_debug_protocol.specs.declared.condition.Condition.{Condition}
@@ -25,10 +26,10 @@ use Rattle.aom_text.specs.Words.{words}
 use Rattle.aom_text.specs.Numbers.{number_of, number_within}
 use Rattle.aom_text.specs.declared.number.Number.{Number}
 use Rattle.aom_transcript.specs.declared.line.Ending.{Ending}
-use Rattle.aom_debug_symbols.specs.NameLists.{NameLists, has_text, method_named}
+use Rattle.aom_debug_symbols.specs.NameLists.{NameLists, has_lines, has_text, method_named}
 use Rattle.aom_debug_symbols.specs.Lines.{spot_in}
-use Rattle.aom_debug_symbols.specs.Commands.{command_by, is_mark, line_said, mark_at, mark_by, mark_first, mark_in, mark_line, mark_named, mark_numbered}
-use Rattle.aom_debug_symbols.specs.Commands.{mark_said, mark_there, mark_where, mark_words, marked, numbered, or_named}
+use Rattle.aom_debug_symbols.specs.Commands.{command_by, is_mark, line_said, look_at, look_words, mark_at, mark_first, mark_in, mark_line, mark_named, mark_numbered}
+use Rattle.aom_debug_symbols.specs.Commands.{mark_there, mark_where, mark_words, marked, named_said, numbered, or_named, takes_variable, variable_named, verb_by}
 use Rattle.aom_debug.specs.Commands.{is_count, spot_named}
 use Rattle.aom_debug.specs.Debugging.{Answer, CountsNot, Declined, FindsNone, Goes, GoesNamed, Marks, MarksAt, Outgoing, UntilCommands, goes_of}
 use Rattle.aom_debug.specs.Courses.{step_course}
@@ -227,26 +228,41 @@ words_no_end ns verb (word ∷ second ∷ others) e = go (bytes_eq second (codes
     go true x = where_no_end ns verb word (comparison_said others) x
     go false x = numbered_no_end ns verb word (number_of second) (condition_said others) x
 
-by_no_end : (ns : NameLists) (verb : Option Verb) (ws : List (List ℕ)) → mark_by ns verb ws ≡ Err Ended → ⊥
-by_no_end ns None ws e = cc
-by_no_end ns (Some verb) ws e = go (is_mark verb) e
+look_no_end : (verb : Verb) (variable : Option Variable) → look_at verb variable ≡ Err Ended → ⊥
+look_no_end verb None e = cc
+look_no_end verb (Some variable) e = cc
+
+local_no_end : (ns : NameLists) (here : Option CodeLocation) (verb : Verb) (ws : List (List ℕ)) → look_words ns here verb ws ≡ Err Ended → ⊥
+local_no_end ns here verb [] e = cc
+local_no_end ns here verb (word ∷ second ∷ others) e = cc
+local_no_end ns here verb (word ∷ []) e = go (has_lines ns) e
   where
-    go : (b : Bool) → cond b (mark_words ns verb ws) (Err BadCommand) ≡ Err Ended → ⊥
-    go true x = words_no_end ns verb ws x
+    go : (b : Bool) → cond b (look_at verb (variable_named ns here word)) (Err BadCommand) ≡ Err Ended → ⊥
+    go true x = look_no_end verb (variable_named ns here word) x
     go false x = cc
 
-place_no_end : (ns : NameLists) (ws : List (List ℕ)) → mark_said ns ws ≡ Err Ended → ⊥
-place_no_end ns [] e = cc
-place_no_end ns (name ∷ ws) e = by_no_end ns (verb_named name) ws e
-
-or_no_end : (ns : NameLists) (line : List ℕ) (said : Result (Option Command) DebugFault) → (said ≡ Err Ended → ⊥) → or_named ns line said ≡ Err Ended → ⊥
-or_no_end ns line (Ok command) not e = cc
-or_no_end ns line (Err fault) not e = go (nat_lt 256 (length line)) (has_text ns) e
+by_no_end : (ns : NameLists) (here : Option CodeLocation) (verb : Option Verb) (ws : List (List ℕ)) → verb_by ns here verb ws ≡ Err Ended → ⊥
+by_no_end ns here None ws e = cc
+by_no_end ns here (Some verb) ws e = go (is_mark verb) (takes_variable verb) e
   where
-    go : (long text : Bool) → cond long (Err fault) (cond text (mark_said ns (words line)) (Err fault)) ≡ Err Ended → ⊥
+    go : (mark look : Bool) → cond mark (mark_words ns verb ws) (cond look (look_words ns here verb ws) (Err BadCommand)) ≡ Err Ended → ⊥
+    go true look x = words_no_end ns verb ws x
+    go false true x = local_no_end ns here verb ws x
+    go false false x = cc
+
+place_no_end : (ns : NameLists) (here : Option CodeLocation) (ws : List (List ℕ)) → named_said ns here ws ≡ Err Ended → ⊥
+place_no_end ns here [] e = cc
+place_no_end ns here (name ∷ ws) e = by_no_end ns here (verb_named name) ws e
+
+or_no_end : (ns : NameLists) (here : Option CodeLocation) (line : List ℕ) (said : Result (Option Command) DebugFault) →
+    (said ≡ Err Ended → ⊥) → or_named ns here line said ≡ Err Ended → ⊥
+or_no_end ns here line (Ok command) not e = cc
+or_no_end ns here line (Err fault) not e = go (nat_lt 256 (length line)) (has_text ns) e
+  where
+    go : (long text : Bool) → cond long (Err fault) (cond text (named_said ns here (words line)) (Err fault)) ≡ Err Ended → ⊥
     go true text x = not x
-    go false true x = place_no_end ns (words line) x
+    go false true x = place_no_end ns here (words line) x
     go false false x = not x
 
-pub says_no_end : (ns : NameLists) (line : List ℕ) → command_by ns line ≡ Err Ended → ⊥
-says_no_end ns line is = or_no_end ns line (command_said line) (said_no_end line) is
+pub says_no_end : (ns : NameLists) (here : Option CodeLocation) (line : List ℕ) → command_by ns here line ≡ Err Ended → ⊥
+says_no_end ns here line is = or_no_end ns here line (command_said line) (said_no_end line) is

@@ -11,11 +11,13 @@ use Rattle.aom_run.specs.Calls.{RefinesWithNatives}
 use Rattle.aom_transcript.specs.Sinks.{after}
 use Rattle.aom_debug.proofs.DebugSteppingLemmas.{after_both, after_none, observes_as}
 use Rattle.aom_debug_symbols.specs.Commands.{command_by}
+use Rattle.aom_debug_views.specs.Frames.{innermost_spot}
 use Rattle.aom_debug_protocol.specs.Lines.{Kept, pending_of}
 use Rattle.aom_debug.specs.Runners.{KeepsRunner, outside_of}
 use Rattle.aom_debug.specs.declared.debugger.Debugger.{Debugger}
 use Rattle.aom_debug.specs.SessionLoop.{BreaksOff, Broken, Ends, GoesOn, Held, Stopped, SessionInvariant}
 use Rattle.aom_debug_protocol.specs.declared.command.Command.{Command}
+use Rattle.aom_debug_protocol.specs.declared.spot.CodeLocation.{CodeLocation}
 use Rattle.aom_debug_protocol.specs.declared.fault.DebugFault.{DebugFault}
 use Rattle.aom_debug.specs.Observing.{Observed, ObservedPart, standing}
 use Rattle.aom_debug.specs.Sessions.{Begins, ExecutesLine, Session, SessionState}
@@ -104,7 +106,7 @@ module _ {X : Type 0} {B : X → Type 0} (p : Image) (outside : Environment) (st
     module _ (now : Option (List ℕ)) (failed : Bool) where
       -- the output fails in it
       pub session_invariant_cut : (whole : List ℕ) (more : List (List ℕ)) → lines_of whole ≡ session_invariant.lines ++ session_invariant.rest ∷ more →
-          ObservedPart (command_by d.names session_invariant.rest) d (record { before = here; now = now; failed = failed }) → Broken p outside start whole before now failed
+          ObservedPart (command_by d.names (innermost_spot session_invariant.state) session_invariant.rest) d (record { before = here; now = now; failed = failed }) → Broken p outside start whole before now failed
       session_invariant_cut whole more are part =
           let f = part.goes session_invariant.state session_invariant.stands in
           record {
@@ -116,8 +118,8 @@ module _ {X : Type 0} {B : X → Type 0} (p : Image) (outside : Environment) (st
             last = standing d session_invariant.state;
             session = session_invariant.session;
             next = f.0;
-            begins = subst (λ o. Begins p o (command_by d.names session_invariant.rest) (standing d session_invariant.state) f.0) session_invariant.same
-                (subst (λ q. Begins q (outside_of d.runner) (command_by d.names session_invariant.rest) (standing d session_invariant.state) f.0) session_invariant.image f.1);
+            begins = subst (λ o. Begins p o (command_by d.names (innermost_spot session_invariant.state) session_invariant.rest) (standing d session_invariant.state) f.0) session_invariant.same
+                (subst (λ q. Begins q (outside_of d.runner) (command_by d.names (innermost_spot session_invariant.state) session_invariant.rest) (standing d session_invariant.state) f.0) session_invariant.image f.1);
             fails = part.failed;
             sent = f.2.0;
             out = joined (take f.2.0 f.0) now f.2.1;
@@ -125,16 +127,16 @@ module _ {X : Type 0} {B : X → Type 0} (p : Image) (outside : Environment) (st
 
     module _ (new : Debugger X B) (now : Option (List ℕ)) (failed : Bool) where
       -- it is done or refused
-      executed_line : (observed : Observed (command_by d.names session_invariant.rest) d new (record { before = here; now = now; failed = failed })) →
+      executed_line : (observed : Observed (command_by d.names (innermost_spot session_invariant.state) session_invariant.rest) d new (record { before = here; now = now; failed = failed })) →
           let f = observed.goes session_invariant.state session_invariant.stands in Session p outside start (session_invariant.lines ++ session_invariant.rest ∷ []) (session_invariant.reported ++ f.0) (standing new f.1)
       executed_line observed =
           let f = observed.goes session_invariant.state session_invariant.stands in
           executes_line session_invariant.rest f.0 session_invariant.session
-          (subst (λ o. ExecutesLine p o (command_by d.names session_invariant.rest) (standing d session_invariant.state) f.0 (standing new f.1)) session_invariant.same
-          (subst (λ q. ExecutesLine q (outside_of d.runner) (command_by d.names session_invariant.rest) (standing d session_invariant.state) f.0 (standing new f.1)) session_invariant.image f.2))
+          (subst (λ o. ExecutesLine p o (command_by d.names (innermost_spot session_invariant.state) session_invariant.rest) (standing d session_invariant.state) f.0 (standing new f.1)) session_invariant.same
+          (subst (λ q. ExecutesLine q (outside_of d.runner) (command_by d.names (innermost_spot session_invariant.state) session_invariant.rest) (standing d session_invariant.state) f.0 (standing new f.1)) session_invariant.image f.2))
 
       -- the last, which lacks its line feed
-      pub session_invariant_last : has_bytes session_invariant.rest ≡ true → Observed (command_by d.names session_invariant.rest) d new (record { before = here; now = now; failed = failed }) →
+      pub session_invariant_last : has_bytes session_invariant.rest ≡ true → Observed (command_by d.names (innermost_spot session_invariant.state) session_invariant.rest) d new (record { before = here; now = now; failed = failed }) →
           Held p outside start text before now
       session_invariant_last some observed =
           let f = observed.goes session_invariant.state session_invariant.stands in
@@ -146,7 +148,7 @@ module _ {X : Type 0} {B : X → Type 0} (p : Image) (outside : Environment) (st
           }
 
       -- a line that is whole
-      pub session_invariant_line : (byte : ℕ) (then : Kept) → (byte == 10) ≡ true → then ≡ pending_of [] → KeepsRunner d.runner new.runner → Observed (command_by d.names session_invariant.rest) d
+      pub session_invariant_line : (byte : ℕ) (then : Kept) → (byte == 10) ≡ true → then ≡ pending_of [] → KeepsRunner d.runner new.runner → Observed (command_by d.names (innermost_spot session_invariant.state) session_invariant.rest) d
           new (record { before = here; now = now; failed = failed }) → SessionInvariant p outside start (text ++ byte ∷ []) new then before now
       session_invariant_line byte then feeds anew keeps observed =
           let f = observed.goes session_invariant.state session_invariant.stands in
@@ -171,6 +173,12 @@ is_there : (line : List ℕ) → has_bytes line ≡ not (length line == 0)
 is_there [] = refl
 is_there (b ∷ bs) = sym (ap not (ne_eqb (length (b ∷ bs)) 0 (λ none. omega (arith, none))))
 
+-- what is read where the machine stands is what is read in each state that it stands for
+pub said_in_each : {X : Type 0} {B : X → Type 0} (d : Debugger X B) (kept : Kept) (here : Option CodeLocation) (said : Result (Option Command) DebugFault)
+    → ((s : State) → RefinesWithNatives d.runner.machine s → here ≡ innermost_spot s) → ((line : List ℕ) → kept ≡ pending_of line → said ≡ command_by d.names here line)
+    → (s : State) → RefinesWithNatives d.runner.machine s → (line : List ℕ) → kept ≡ pending_of line → said ≡ command_by d.names (innermost_spot s) line
+said_in_each d kept here said stands says s st line is = says line is ∙ ap (λ at. command_by d.names at line) (stands s st)
+
 -- ---- bytes one after another
 
 module _ {X : Type 0} {B : X → Type 0} where
@@ -192,18 +200,18 @@ module _ {X : Type 0} {B : X → Type 0} where
 
     -- in a line
     module _ (is : empty ≡ false) (now : Option (List ℕ))
-        (failed : Bool) (said : Result (Option Command) DebugFault) (says : (line : List ℕ) → kept ≡ pending_of line → said ≡ command_by d.names line) where
+        (failed : Bool) (said : Result (Option Command) DebugFault) (says : (s : State) → RefinesWithNatives d.runner.machine s → (line : List ℕ) → kept ≡ pending_of line → said ≡ command_by d.names (innermost_spot s) line) where
       pub ends_in_line : (new : Debugger X B) → Observed said d new (record { before = here; now = now; failed = failed }) → Ends d kept here now
       ends_in_line new observed p outside start text before session_invariant = session_invariant_last p outside start text before d kept here session_invariant new now failed
           (is_there session_invariant.rest ∙ ap not (sym (says_empty session_invariant.rest session_invariant.pending) ∙ is))
-          (subst (λ r. Observed r d new (record { before = here; now = now; failed = failed })) (says session_invariant.rest session_invariant.pending) observed)
+          (subst (λ r. Observed r d new (record { before = here; now = now; failed = failed })) (says session_invariant.state session_invariant.stands session_invariant.rest session_invariant.pending) observed)
 
       pub breaks_at_end : ObservedPart said d (record { before = here; now = now; failed = failed }) → BreaksOff d kept here [] now failed
       breaks_at_end part p outside start text before session_invariant =
           let some = is_there session_invariant.rest ∙ ap not (sym (says_empty session_invariant.rest session_invariant.pending) ∙ is) in
           session_invariant_cut p outside start text before d kept here session_invariant now failed (text ++ []) []
           (ap lines_of (append-nil text) ∙ lines_last p outside start text before d kept here session_invariant some)
-          (subst (λ r. ObservedPart r d (record { before = here; now = now; failed = failed })) (says session_invariant.rest session_invariant.pending) part)
+          (subst (λ r. ObservedPart r d (record { before = here; now = now; failed = failed })) (says session_invariant.state session_invariant.stands session_invariant.rest session_invariant.pending) part)
 
   -- ---- one byte more
 
@@ -216,11 +224,11 @@ module _ {X : Type 0} {B : X → Type 0} where
         subst (λ t. SessionInvariant p outside start t d now before mid) (append_assoc text bytes (byte ∷ []) ∙ ap (λ t. text ++ t) (sym is)) on
 
     pub goes_line : (new : Debugger X B) (then : Kept) (out : Option (List ℕ)) (failed : Bool) (said : Result (Option Command) DebugFault) →
-        (byte == 10) ≡ true → then ≡ pending_of [] → ((line : List ℕ) → kept ≡ pending_of line → said ≡ command_by d.names line) → KeepsRunner d.runner new.runner
+        (byte == 10) ≡ true → then ≡ pending_of [] → ((s : State) → RefinesWithNatives d.runner.machine s → (line : List ℕ) → kept ≡ pending_of line → said ≡ command_by d.names (innermost_spot s) line) → KeepsRunner d.runner new.runner
         → Observed said d new (record { before = mid; now = out; failed = failed }) → GoesOn a first here more new then out
     goes_line new then out failed said feeds anew says keeps observed p outside start text before session_invariant =
         let t = goes p outside start text before session_invariant in
-        let observed_so = subst (λ r. Observed r d new (record { before = mid; now = out; failed = failed })) (says t.rest t.pending) observed in
+        let observed_so = subst (λ r. Observed r d new (record { before = mid; now = out; failed = failed })) (says t.state t.stands t.rest t.pending) observed in
         let on = session_invariant_line p outside start (text ++ bytes) before d kept mid t new out failed byte then feeds anew keeps observed_so in
         subst (λ u. SessionInvariant p outside start u new then before out) (append_assoc text bytes (byte ∷ []) ∙ ap (λ u. text ++ u) (sym is)) on
 
@@ -228,11 +236,11 @@ module _ {X : Type 0} {B : X → Type 0} where
   module _ (a d : Debugger X B) (first kept : Kept) (here mid : Option (List ℕ))
       (bytes others all : List ℕ) (byte : ℕ) (is : all ≡ bytes ++ byte ∷ others) (goes : GoesOn a first here bytes d kept mid) where
     pub breaks_in_line : (out : Option (List ℕ)) (failed : Bool) (said : Result (Option Command) DebugFault) → (byte == 10) ≡ true →
-        ((line : List ℕ) → kept ≡ pending_of line → said ≡ command_by d.names line) → ObservedPart said d (record { before = mid; now = out; failed = failed })
+        ((s : State) → RefinesWithNatives d.runner.machine s → (line : List ℕ) → kept ≡ pending_of line → said ≡ command_by d.names (innermost_spot s) line) → ObservedPart said d (record { before = mid; now = out; failed = failed })
         → BreaksOff a first here all out failed
     breaks_in_line out failed said feeds says part p outside start text before session_invariant =
         let t = goes p outside start text before session_invariant in
         let lines = lines_on p outside start (text ++ bytes) before d kept mid t byte others feeds in
         let whole : text ++ all ≡ (text ++ bytes) ++ byte ∷ others = ap (λ u. text ++ u) is ∙ sym (append_assoc text bytes (byte ∷ others)) in
         session_invariant_cut p outside start (text ++ bytes) before d kept mid t out failed (text ++ all) (lines_of others) (ap lines_of whole ∙ lines)
-        (subst (λ r. ObservedPart r d (record { before = mid; now = out; failed = failed })) (says t.rest t.pending) part)
+        (subst (λ r. ObservedPart r d (record { before = mid; now = out; failed = failed })) (says t.state t.stands t.rest t.pending) part)

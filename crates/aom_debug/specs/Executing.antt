@@ -1,5 +1,9 @@
 -- What each command asks of a debugger, and what a line of commands does.
-use Rattle.std.specs.Prelude.{◌≡◌, Option, Some, None, Result, Ok, Err, true, false}
+use Rattle.std.specs.Prelude.{◌≡◌, ℕ, List, Option, Some, None, Result, Ok, Err, true, false}
+use Rattle.aom_semantics.specs.State.{State}
+use Rattle.aom_debug_stepping.specs.Calls.{RefinesWithNatives}
+use Rattle.aom_debug_symbols.specs.Commands.{command_by}
+use Rattle.aom_debug_views.specs.Frames.{innermost_spot}
 use Rattle.aom_debug_protocol.specs.declared.command.Command.{Command}
 use Rattle.aom_debug_protocol.specs.declared.command.Command.TheVariants.{Step, MachineStep, Next, MachineNext, Finish, Turn, Go, Until, Break, Unbreak, Breaks, Clock, Frames, Help, Cells, Owners, Cleanup, Actives, History, Timers, Words, Queue, Print, Watch}
 use Rattle.aom_debug_protocol.specs.declared.fault.DebugFault.{DebugFault}
@@ -49,3 +53,8 @@ module _ {X : Type 0} {B : X → Type 0} where
   ExecutesLine (Err fault) = Passes (Err fault)
   ExecutesLine (Ok None) = Passes (Ok tt)
   ExecutesLine (Ok (Some command)) = Executes command
+
+  -- which is read where the innermost method stands, in each state that the machine stands for
+  abbrev pub ExecutesRead : List ℕ → Debugger X B → Debugger X B → Outgoing → Answer → Type 0
+  ExecutesRead line old new out answer =
+      (s : State) → RefinesWithNatives old.runner.machine s → ExecutesLine (command_by old.names (innermost_spot s) line) old new out answer

@@ -7,6 +7,7 @@ use Rattle.aom_semantics.specs.World.{Environment}
 use Rattle.aom_run.specs.Calls.{RefinesWithNatives}
 use Rattle.aom_transcript.specs.Sinks.{after}
 use Rattle.aom_debug_symbols.specs.Commands.{command_by}
+use Rattle.aom_debug_views.specs.Frames.{innermost_spot}
 use Rattle.aom_debug_protocol.specs.Lines.{Kept, pending_of}
 use Rattle.aom_debug.specs.Runners.{outside_of}
 use Rattle.aom_debug.specs.declared.debugger.Debugger.{Debugger}
@@ -88,7 +89,7 @@ pub record Broken (p : Image) (outside : Environment) (start : SessionState) (te
   pub last : SessionState
   pub session : Session p outside start lines reported last
   pub next : List ℕ
-  pub begins : Begins p outside (command_by last.names line) last next
+  pub begins : Begins p outside (command_by last.names (innermost_spot last.state) line) last next
   pub fails : failed ≡ true
   pub sent : ℕ
   pub out : now ≡ after before (reported ++ take sent next)

@@ -25,6 +25,7 @@ use Rattle.aom_debug_paths.specs.Variables.{variable_answer}
 use Rattle.aom_static_bounds.specs.Strongest.{IsStrongest}
 use Rattle.aom_typing_rules.specs.Typing.{Typing}
 use Rattle.aom_debug_protocol.specs.Answers.{answer_text}
+use Rattle.aom_debug_views.specs.Frames.{innermost_spot}
 use Rattle.aom_debug_paths.specs.Paths.{queue_answers, words_answers}
 use Rattle.aom_debug.specs.RunGoals.{RunGoals, GoesBy, GoesOver, GoesToBreakpoint, GoesToChange, GoesToPlace, ToLimit, TurnsOver, way_of}
 use Rattle.aom_debug_stepping.specs.declared.over.Awaited.TheVariants as scopes
@@ -136,10 +137,10 @@ ExecutesLine p outside (Err fault) a text b = Reported fault a text b
 ExecutesLine p outside (Ok None) a text b = (b ≡ a) × (text ≡ [])
 ExecutesLine p outside (Ok (Some command)) a text b = Does p outside command a text b ⊎ ((fault : DebugFault) × Refuses p command a fault × Reported fault a text b)
 
--- lines one after another, and all that they tell
+-- lines one after another, each read where the innermost method stands then, and all that they tell
 pub data Session (p : Image) (outside : Environment) (a : SessionState) : List (List ℕ) → List ℕ → SessionState → Type 0 where
   begins : Session p outside a [] [] a
-  executes_line : {lines : List (List ℕ)} {reported : List ℕ} {b c : SessionState} (line text : List ℕ) → Session p outside a lines reported b → ExecutesLine p outside (command_by b.names line) b text c → Session p outside a (lines ++ line ∷ []) (reported ++ text) c
+  executes_line : {lines : List (List ℕ)} {reported : List ℕ} {b c : SessionState} (line text : List ℕ) → Session p outside a lines reported b → ExecutesLine p outside (command_by b.names (innermost_spot b.state) line) b text c → Session p outside a (lines ++ line ∷ []) (reported ++ text) c
 
 -- a command that goes on, and may
 abbrev pub MovesOn : Image → Result (Option Command) DebugFault → SessionState → Type 0

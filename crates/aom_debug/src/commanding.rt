@@ -1,9 +1,8 @@
 //! Commands by their lines.
 ghost use Rattle.std.specs.Prelude.{◌≡◌};
 ghost use Rattle.aom_natives.specs.Slots.{AllAgree};
-ghost use Rattle.aom_debug_symbols.specs.Commands.{command_by};
 ghost use Rattle.aom_debug_stepping.specs.Runners.{IsReady, KeepsRunner};
-ghost use Rattle.aom_debug.specs.Executing.{ExecutesLine, Executes};
+ghost use Rattle.aom_debug.specs.Executing.{ExecutesRead, Executes};
 
 use crate::Debugger;
 use aom_debug_protocol::{Command, DebugFault};
@@ -18,12 +17,12 @@ impl<'a> Debugger<'a> {
         requires ready { IsReady self.old.runner }
         ensures agree { AllAgree (λ l. l.ids) (λ l. (⟦<dyn Native as Native>⟧ l.native.vtable).owed l.native.value) self.new.runner.machine.natives.slots.items }
         ensures keeps { KeepsRunner self.old.runner self.new.runner }
-        ensures answer { ExecutesLine (command_by self.old.names line.now) self.old self.new (record { before = W.out out.old; now = W.out out.new; failed = W.failed out.new }) result }
+        ensures answer { ExecutesRead line.now self.old self.new (record { before = W.out out.old; now = W.out out.new; failed = W.failed out.new }) result }
     {
         if self.has_failed {
             return Err(DebugFault::Ended);
         }
-        match read_named(&self.names, line) {
+        match read_named(&self.names, self.here(), line) {
             Ok(Some(command)) => self.execute(command, out),
             Ok(None) => Ok(()),
             Err(fault) => Err(fault),

@@ -24,6 +24,7 @@ mod printing;
 mod reaching;
 mod session_loop;
 mod showing;
+mod standing;
 mod stepping;
 mod unbreaking;
 mod watching;

@@ -88,7 +88,7 @@ fn end<W: Sink>(debugger: &mut Debugger, pending: &mut Pending, out: &mut W) -> 
     if pending.is_empty() {
         return Ok(());
     }
-    let said = take_named(&debugger.names, pending);
+    let said = take_named(&debugger.names, debugger.here(), pending);
     execute(debugger, said, out)
 }
 
@@ -110,7 +110,7 @@ fn observe<W: Sink>(
 {
     for byte in bytes {
         if *byte == b'\n' {
-            let said = take_named(&debugger.names, pending);
+            let said = take_named(&debugger.names, debugger.here(), pending);
             execute(debugger, said, out)?;
         } else {
             pending.add(*byte);

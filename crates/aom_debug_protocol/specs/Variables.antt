@@ -7,6 +7,10 @@ use Rattle.aom_debug_protocol.specs.declared.variable.Variable.TheVariants.{Regi
 
 -- ---- of the innermost method
 
+-- a register by its number, of the sixteen that there are
+abbrev pub register_numbered : ℕ → Option Variable
+register_numbered i = if nat_lt i 16 then Some (Register i) else None
+
 abbrev pub register_variable : Option ℕ → Option Variable
 register_variable None = None
 register_variable (Some i) = Some (Register i)

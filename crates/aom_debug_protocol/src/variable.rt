@@ -1,7 +1,7 @@
 //! What a debugger prints by its name: a register, or a word of an object.
 ghost use Rattle.std.specs.Prelude.{◌≡◌, ◌∷◌, [], option_map};
 ghost use Rattle.aom_text.specs.Numbers.{number_of};
-ghost use Rattle.aom_debug_protocol.specs.Variables.{local_said, or_object_word, object_word, register_variable, variable_at, variable_said, word_digit, word_suffix, word_variable};
+ghost use Rattle.aom_debug_protocol.specs.Variables.{local_said, or_object_word, object_word, register_numbered, register_variable, variable_at, variable_said, word_digit, word_suffix, word_variable};
 ghost use Rattle.aom_debug_protocol.specs.Ways.{up_to};
 
 use crate::path::Path;
@@ -18,6 +18,19 @@ pub enum Variable {
     Word(WordIndex),
     /// A word of the object that is owned there.
     WordAt(Path, WordIndex),
+}
+
+impl Variable {
+    /// The register of that number, if there is one.
+    pub fn of_register(number: usize) -> Option<Variable>
+        ensures { result ≡ register_numbered number }
+    {
+        if number < 16 {
+            Some(Variable::Register(Register::new(number as u8).unwrap()))
+        } else {
+            None
+        }
+    }
 }
 
 /// The variable that words name.

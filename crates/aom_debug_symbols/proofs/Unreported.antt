@@ -60,9 +60,9 @@ same : (long : Bool) (said : Result (Option Command) DebugFault) → cond long s
 same true said = refl
 same false said = refl
 
-plain_said : (line : List ℕ) (said : Result (Option Command) DebugFault) → or_named unnamed line said ≡ said
-plain_said line (Ok command) = refl
-plain_said line (Err fault) = same (nat_lt 256 (length line)) (Err fault)
+plain_said : (here : Option CodeLocation) (line : List ℕ) (said : Result (Option Command) DebugFault) → or_named unnamed here line said ≡ said
+plain_said here line (Ok command) = refl
+plain_said here line (Err fault) = same (nat_lt 256 (length line)) (Err fault)
 
-pub plain_command : (line : List ℕ) → command_by unnamed line ≡ command_said line
-plain_command line = plain_said line (command_said line)
+pub plain_command : (here : Option CodeLocation) (line : List ℕ) → command_by unnamed here line ≡ command_said line
+plain_command here line = plain_said here line (command_said line)

@@ -9,14 +9,16 @@ use Rattle.aom_debug_protocol.specs.Conditions.{comparison_said, condition_said}
 use Rattle.aom_debug_protocol.specs.declared.condition.Condition.{Condition}
 use Rattle.aom_debug_protocol.specs.declared.condition.Condition.TheVariants.{Always}
 use Rattle.aom_debug_protocol.specs.declared.command.Command.{Command}
-use Rattle.aom_debug_protocol.specs.declared.command.Command.TheVariants.{Until, Break, Unbreak}
+use Rattle.aom_debug_protocol.specs.declared.command.Command.TheVariants.{Until, Break, Unbreak, Print, Watch}
+use Rattle.aom_debug_protocol.specs.Variables.{register_numbered}
+use Rattle.aom_debug_protocol.specs.declared.variable.Variable.{Variable}
 use Rattle.aom_debug_protocol.specs.Verbs.{verb_named}
 use Rattle.aom_debug_protocol.specs.declared.verb.Verb.{Verb}
 use Rattle.aom_debug_protocol.specs.declared.verb.Verb.TheVariants as v
 use Rattle.aom_debug_protocol.specs.declared.fault.DebugFault.{DebugFault}
-use Rattle.aom_debug_protocol.specs.declared.fault.DebugFault.TheVariants.{BadCommand, NoSuch}
+use Rattle.aom_debug_protocol.specs.declared.fault.DebugFault.TheVariants.{BadCommand, NoSuch, NotThere}
 use Rattle.aom_debug_protocol.specs.declared.spot.CodeLocation.{CodeLocation}
-use Rattle.aom_debug_symbols.specs.NameLists.{NameLists, has_text, method_named}
+use Rattle.aom_debug_symbols.specs.NameLists.{NameLists, has_lines, has_text, method_named, register_named}
 use Rattle.aom_debug_symbols.specs.Lines.{spot_in}
 
 -- a number, as a command has it
@@ -102,18 +104,56 @@ mark_words ns verb (word ∷ []) = mark_first ns verb Always word (method_named 
 mark_words ns verb (word ∷ second ∷ others) =
     if bytes_eq second (codes "if") then mark_where ns verb word (comparison_said others) else mark_numbered ns verb word (number_of second) (condition_said others)
 
-abbrev pub mark_by : NameLists → Option Verb → List (List ℕ) → Result (Option Command) DebugFault
-mark_by ns None others = Err BadCommand
-mark_by ns (Some verb) others = if is_mark verb then mark_words ns verb others else Err BadCommand
+-- ---- by the name of a local
 
-abbrev pub mark_said : NameLists → List (List ℕ) → Result (Option Command) DebugFault
-mark_said ns [] = Err BadCommand
-mark_said ns (name ∷ others) = mark_by ns (verb_named name) others
+-- these two take a variable
+abbrev pub takes_variable : Verb → Bool
+takes_variable v.Print = true
+takes_variable v.Watch = true
+takes_variable verb = false
+
+-- that command of one
+abbrev pub look_of : Verb → Variable → Command
+look_of v.Watch variable = Watch variable
+look_of verb variable = Print variable
+
+-- if it is there
+abbrev pub look_at : Verb → Option Variable → Result (Option Command) DebugFault
+look_at verb None = Err NotThere
+look_at verb (Some variable) = Ok (Some (look_of verb variable))
+
+abbrev pub variable_of : Option ℕ → Option Variable
+variable_of None = None
+variable_of (Some register) = register_numbered register
+
+-- the register that has that name at a place
+abbrev pub variable_named : NameLists → Option CodeLocation → List ℕ → Option Variable
+variable_named ns here name = variable_of (register_named ns here name)
+
+-- `print NAME` and `watch NAME`, where there is a source
+abbrev pub look_words : NameLists → Option CodeLocation → Verb → List (List ℕ) → Result (Option Command) DebugFault
+look_words ns here verb [] = Err BadCommand
+look_words ns here verb (word ∷ []) = if has_lines ns then look_at verb (variable_named ns here word) else Err BadCommand
+look_words ns here verb (word ∷ second ∷ others) = Err BadCommand
+
+-- ---- of a line
+
+abbrev pub verb_by : NameLists → Option CodeLocation → Option Verb → List (List ℕ) → Result (Option Command) DebugFault
+verb_by ns here None others = Err BadCommand
+verb_by ns here (Some verb) others =
+    if is_mark verb then mark_words ns verb others
+    else if takes_variable verb then look_words ns here verb others
+    else Err BadCommand
+
+abbrev pub named_said : NameLists → Option CodeLocation → List (List ℕ) → Result (Option Command) DebugFault
+named_said ns here [] = Err BadCommand
+named_said ns here (name ∷ others) = verb_by ns here (verb_named name) others
 
 -- a line that says something is as ever; of one that says nothing the names of a text are looked at, where there is one
-abbrev pub or_named : NameLists → List ℕ → Result (Option Command) DebugFault → Result (Option Command) DebugFault
-or_named ns line (Ok said) = Ok said
-or_named ns line (Err fault) = if nat_lt 256 (length line) then Err fault else if has_text ns then mark_said ns (words line) else Err fault
+abbrev pub or_named : NameLists → Option CodeLocation → List ℕ → Result (Option Command) DebugFault → Result (Option Command) DebugFault
+or_named ns here line (Ok said) = Ok said
+or_named ns here line (Err fault) = if nat_lt 256 (length line) then Err fault else if has_text ns then named_said ns here (words line) else Err fault
 
-abbrev pub command_by : NameLists → List ℕ → Result (Option Command) DebugFault
-command_by ns line = or_named ns line (command_said line)
+-- said where the innermost method stands at a place, or where none does
+abbrev pub command_by : NameLists → Option CodeLocation → List ℕ → Result (Option Command) DebugFault
+command_by ns here line = or_named ns here line (command_said line)

@@ -1,6 +1,6 @@
 -- That nothing is told by names where there is no text, nor a register where there is no source, and that an instruction that is found by a line stands in it,
 -- and one is found where one stands.
-use Rattle.std.specs.Prelude.{ℕ, ◌≡◌, ◌≤◌, ◌++◌, IsSome, List, [], Some, codes, decimal, length, option_map}
+use Rattle.std.specs.Prelude.{ℕ, ◌≡◌, ◌≤◌, ◌++◌, IsSome, List, [], Option, Some, codes, decimal, length, option_map}
 use Rattle.aom_text.specs.Text.{statements}
 use Rattle.aom_debug_protocol.specs.Answers.{answer_text}
 use Rattle.aom_debug_protocol.specs.Commands.{command_said}
@@ -14,7 +14,7 @@ use Rattle.aom_debug_symbols.specs.Lines.{spot_in}
 -- without a text all is as ever
 pub record NoTextIsAsEver : Type 0 where
   pub answers : (answer : Answer) → answer_by unnamed answer ≡ answer_text answer
-  pub commands : (line : List ℕ) → command_by unnamed line ≡ command_said line
+  pub commands : (here : Option CodeLocation) (line : List ℕ) → command_by unnamed here line ≡ command_said line
 
 -- without a source a register is told by its number, wherever it is
 abbrev pub NumbersRegisters : Type 0

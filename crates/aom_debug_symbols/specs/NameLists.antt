@@ -100,3 +100,21 @@ register_word register (Some name) = if nat_lt 32 (length name) then codes "r" +
 
 abbrev pub register_by : NameLists → CodeLocation → ℕ → List ℕ
 register_by ns spot register = register_word register (local_at ns spot register)
+
+-- a local has that name, and holds in that line of the text
+abbrev pub is_named : (line : ℕ) (name : List ℕ) → LocalName → Bool
+is_named line name l = (bytes_eq l.name.items name && nat_lt l.from line) && nat_le line l.to
+
+-- the register of the first of that name there
+abbrev pub register_in : List LocalName → (line : ℕ) (name : List ℕ) → Option ℕ
+register_in locals line name = option_map (λ (l : LocalName). l.register) (find (is_named line name) locals)
+
+-- in the line of a statement
+abbrev pub register_of : List LocalName → (name : List ℕ) → Option Statement → Option ℕ
+register_of locals name None = None
+register_of locals name (Some s) = register_in locals s.line name
+
+-- where the instruction at a place stands, if there is a place
+abbrev pub register_named : NameLists → Option CodeLocation → (name : List ℕ) → Option ℕ
+register_named ns None name = None
+register_named ns (Some spot) name = register_of ns.locals name (instruction_statement ns.text spot.method spot.place)

@@ -1,15 +1,15 @@
-//! Commands at places that names and lines tell.
+//! Commands at places that names and lines tell, and of registers that names tell.
 ghost use Rattle.std.specs.Prelude.{◌≡◌, ℕ, List, []};
 ghost use Rattle.aom_text.specs.Numbers.{number_of};
 ghost use Rattle.aom_debug_protocol.specs.Lines.{pending_of};
-ghost use Rattle.aom_debug_symbols.specs.Commands.{behind_colon, command_by, is_mark, line_of_file, line_said, mark_at, mark_by, mark_first, mark_in, mark_line, mark_named, mark_numbered, mark_said, mark_there, mark_where, mark_words, marked, numbered, or_named};
+ghost use Rattle.aom_debug_symbols.specs.Commands.{behind_colon, command_by, is_mark, line_of_file, line_said, look_at, look_of, look_words, mark_at, mark_first, mark_in, mark_line, mark_named, mark_numbered, mark_there, mark_where, mark_words, marked, named_said, numbered, or_named, takes_variable, variable_named, verb_by};
 ghost use Rattle.aom_debug_symbols.specs.NameLists.{method_named};
 ghost use Rattle.aom_debug_protocol.specs.Commands.{command_said};
 
 use crate::SourceNames;
 use aom_debug_protocol::{
-    CodeLocation, Command, Condition, DebugFault, Pending, Verb, read_command, read_comparison,
-    read_condition, verb_named,
+    CodeLocation, Command, Condition, DebugFault, Pending, Variable, Verb, read_command,
+    read_comparison, read_condition, verb_named,
 };
 use aom_text::{Number, WordCursor};
 
@@ -215,57 +215,129 @@ fn mark_words(
     }
 }
 
-fn mark_by(
+/// Whether a command takes a variable.
+fn takes_variable(verb: Verb) -> bool
+    ensures { result ≡ takes_variable verb }
+{
+    matches!(verb, Verb::Print | Verb::Watch)
+}
+
+/// That command of a variable.
+fn look_of(verb: Verb, variable: Variable) -> Command
+    ensures { result ≡ look_of verb variable }
+{
+    match verb {
+        Verb::Watch => Command::Watch(variable),
+        _ => Command::Print(variable),
+    }
+}
+
+/// Of a variable, if it is there.
+fn look_at(verb: Verb, variable: Option<Variable>) -> Result<Option<Command>, DebugFault>
+    ensures { result ≡ look_at verb variable }
+{
+    match variable {
+        Some(variable) => Ok(Some(look_of(verb, variable))),
+        None => Err(DebugFault::NotThere),
+    }
+}
+
+/// The register that has that name where the innermost method stands.
+fn variable_named(names: &SourceNames, here: Option<CodeLocation>, name: &[u8]) -> Option<Variable>
+    ensures { result ≡ variable_named names.now here name.now }
+{
+    match names.register_named(here, name) {
+        Some(register) => Variable::of_register(register),
+        None => None,
+    }
+}
+
+/// What the words behind the name of such a command say, where there is a source.
+fn look_words(
     names: &SourceNames,
+    here: Option<CodeLocation>,
+    verb: Verb,
+    mut words: WordCursor,
+) -> Result<Option<Command>, DebugFault>
+    ensures { result ≡ look_words names.now here verb words.entry }
+{
+    match (words.next(), words.next()) {
+        (Some(word), None) if names.has_lines() => {
+            look_at(verb, variable_named(names, here, word))
+        }
+        _ => Err(DebugFault::BadCommand),
+    }
+}
+
+fn verb_by(
+    names: &SourceNames,
+    here: Option<CodeLocation>,
     verb: Option<Verb>,
     words: WordCursor,
 ) -> Result<Option<Command>, DebugFault>
-    ensures { result ≡ mark_by names.now verb words.entry }
+    ensures { result ≡ verb_by names.now here verb words.entry }
 {
     match verb {
         Some(verb) if is_mark(verb) => mark_words(names, verb, words),
+        Some(verb) if takes_variable(verb) => look_words(names, here, verb, words),
         _ => Err(DebugFault::BadCommand),
     }
 }
 
 /// What the words of a line say by the names and the lines of a text.
-fn read_mark(names: &SourceNames, mut words: WordCursor) -> Result<Option<Command>, DebugFault>
-    ensures { result ≡ mark_said names.now words.entry }
+fn read_words(
+    names: &SourceNames,
+    here: Option<CodeLocation>,
+    mut words: WordCursor,
+) -> Result<Option<Command>, DebugFault>
+    ensures { result ≡ named_said names.now here words.entry }
 {
     match words.next() {
-        Some(name) => mark_by(names, verb_named(name), words),
+        Some(name) => verb_by(names, here, verb_named(name), words),
         None => Err(DebugFault::BadCommand),
     }
 }
 
-/// What a line says, which is given without its line feed; nothing where it has no word.
-pub fn read_named(names: &SourceNames, line: &[u8]) -> Result<Option<Command>, DebugFault>
-    ensures { result ≡ command_by names.now line.now }
+/// What a line says where the innermost method stands at a place, or where none does. It is given without its line feed; nothing where it has no word.
+pub fn read_named(
+    names: &SourceNames,
+    here: Option<CodeLocation>,
+    line: &[u8],
+) -> Result<Option<Command>, DebugFault>
+    ensures { result ≡ command_by names.now here line.now }
 {
     match read_command(line) {
         Ok(said) => Ok(said),
         Err(_) if line.len() <= MAX_BYTES && names.has_text() => {
-            read_mark(names, WordCursor::of(line))
+            read_words(names, here, WordCursor::of(line))
         }
         Err(fault) => Err(fault),
     }
 }
 
 /// What the line says that has come. The next line begins.
-pub fn take_named(names: &SourceNames, pending: &mut Pending) -> Result<Option<Command>, DebugFault>
-    ensures said { (line : List ℕ) → pending.old ≡ pending_of line → result ≡ command_by names.now line }
+pub fn take_named(
+    names: &SourceNames,
+    here: Option<CodeLocation>,
+    pending: &mut Pending,
+) -> Result<Option<Command>, DebugFault>
+    ensures said { (line : List ℕ) → pending.old ≡ pending_of line → result ≡ command_by names.now here line }
     ensures anew { pending.new ≡ pending_of [] }
 {
-    let said = read_pending(names, pending);
+    let said = read_pending(names, here, pending);
     pending.clear();
     said
 }
 
-fn read_pending(names: &SourceNames, pending: &Pending) -> Result<Option<Command>, DebugFault>
-    ensures { (line : List ℕ) → pending.now ≡ pending_of line → result ≡ command_by names.now line }
+fn read_pending(
+    names: &SourceNames,
+    here: Option<CodeLocation>,
+    pending: &Pending,
+) -> Result<Option<Command>, DebugFault>
+    ensures { (line : List ℕ) → pending.now ≡ pending_of line → result ≡ command_by names.now here line }
 {
     match pending.line() {
-        Some(line) => read_named(names, line),
+        Some(line) => read_named(names, here, line),
         None => Err(DebugFault::BadCommand),
     }
 }

@@ -1,6 +1,6 @@
-//! The names that registers have where an instruction stands.
+//! The names that registers have where an instruction stands, and the registers that have a name there.
 ghost use Rattle.std.specs.Prelude.{◌≡◌, ◌++◌, ◌≤◌, IfSome, codes, decimal, find, length, option_map, unwrap_or};
-ghost use Rattle.aom_debug_symbols.specs.NameLists.{local_in, names_register, register_word};
+ghost use Rattle.aom_debug_symbols.specs.NameLists.{is_named, local_in, names_register, register_in, register_word};
 
 use crate::file::LocalName;
 
@@ -14,6 +14,14 @@ impl LocalName {
     {
         let line = line as usize;
         self.register == usize::from(register) && self.from < line && line <= self.to
+    }
+
+    /// Whether it is that name, and holds in a line of the text.
+    fn is(&self, line: u32, name: &[u8]) -> bool
+        ensures { result ≡ is_named line name.now self.now }
+    {
+        let line = line as usize;
+        self.name.as_slice() == name && self.from < line && line <= self.to
     }
 }
 
@@ -44,4 +52,21 @@ pub fn name_in(locals: &[LocalName], line: u32, register: u8) -> Option<&[u8]>
         return None;
     }
     Some(name)
+}
+
+/// The first of that name that holds in a line.
+fn first_named<'a>(locals: &'a [LocalName], line: u32, name: &[u8]) -> Option<&'a LocalName>
+    ensures { option_map (λ l. l.now) result ≡ find (is_named line name.now) locals.now }
+{
+    locals.iter().find(|local| local.is(line, name))
+}
+
+/// The number of its register.
+pub fn register_in(locals: &[LocalName], line: u32, name: &[u8]) -> Option<usize>
+    ensures { result ≡ register_in locals.now line name.now }
+{
+    match first_named(locals, line, name) {
+        Some(local) => Some(local.register),
+        None => None,
+    }
 }

@@ -3,12 +3,12 @@ ghost use Rattle.std.specs.Prelude.{◌≡◌, ◌++◌, ◌≤◌, ◌^◌, IfS
 ghost use Rattle.std.specs.List.{position};
 ghost use Rattle.std.specs.Str.{bytes_eq};
 ghost use Rattle.aom_transcript.specs.Naming.{class_word, borrowed};
-ghost use Rattle.aom_debug_symbols.specs.NameLists.{class_by, has_lines, has_text, line_at, method_by, method_named, register_by, statement_at, unnamed};
+ghost use Rattle.aom_debug_symbols.specs.NameLists.{class_by, has_lines, has_text, line_at, method_by, method_named, register_by, register_named, statement_at, unnamed};
 ghost use Rattle.aom_debug_symbols.specs.Lines.{spot_in};
 
 use crate::file::{TextFile, line_told};
 use crate::lines::spot_in;
-use crate::locals::name_in;
+use crate::locals::{name_in, register_in};
 use aom_debug_protocol::CodeLocation;
 use aom_diagnostics::instruction_statement;
 use aom_text::Statement;
@@ -146,6 +146,15 @@ impl<'a> SourceNames<'a> {
     {
         let found = instruction_statement(self.text, usize::from(spot.method), spot.place)?;
         name_in(self.file.locals, found.line, register)
+    }
+
+    /// The number of the register that has that name where the instruction at a place stands, if there is a place.
+    pub(crate) fn register_named(&self, here: Option<CodeLocation>, name: &[u8]) -> Option<usize>
+        ensures { result ≡ register_named self.now here name.now }
+    {
+        let spot = here?;
+        let found = instruction_statement(self.text, usize::from(spot.method), spot.place)?;
+        register_in(self.file.locals, found.line, name)
     }
 
     /// The place of the first instruction that is told to stand in a line, if one is.

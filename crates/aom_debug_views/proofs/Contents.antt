@@ -33,7 +33,7 @@ use Rattle.aom_debug_protocol.specs.declared.answer.Source.{Source}
 use Rattle.aom_debug_protocol.specs.declared.answer.Content.{Content}
 use Rattle.aom_debug_protocol.specs.declared.answer.Content.TheVariants as contents
 use Rattle.aom_debug_symbols.specs.NameLists.{NameLists}
-use Rattle.aom_debug_views.specs.Frames.{RegisterShows, ShowsFrame, content_by, frame_answers, frame_lines, frame_spot, kind_in, kinds_of, loop_answer, loop_in, receiver_over}
+use Rattle.aom_debug_views.specs.Frames.{RegisterShows, ShowsFrame, content_by, frame_answers, frame_lines, frame_spot, kind_in, kinds_of, loop_answer, loop_in, receiver_over, spot_over}
 use Rattle.aom_debug_views.specs.Frames.{owned_content, place_in, register_in, trap_by, trap_held, trap_in, trap_under}
 use Rattle.aom_debug_views.specs.Owners.{Shows, ShowsIf, is_frame, may_own, source_at}
 use Rattle.aom_debug_views.specs.CellViews.{class_of}
@@ -139,7 +139,7 @@ abbrev pub spot_by : (method place : ℕ) → CodeLocation
 spot_by method place = record { method = method; place = place }
 
 -- a frame stands where that of a state does
-same_spot : (f : Machine_frame) (fr : Frame) → SameFrame f fr → spot_by f.method f.place ≡ frame_spot fr
+pub same_spot : (f : Machine_frame) (fr : Frame) → SameFrame f fr → spot_by f.method f.place ≡ frame_spot fr
 same_spot f fr same = ap (λ n. spot_by n f.place) same.method ∙ ap (λ n. spot_by fr.method n) same.place
 
 pub content_reported : (p : Image) (m : Parts) (sh : AbstractState) (f : Machine_frame) (depth i : ℕ) →
@@ -161,7 +161,9 @@ loop_reported m sh f depth i shown s st answer is = grind (arith, nat_tests, sho
 
 pub place_reported : (m : MachineModel) (sh : AbstractState) (f : Machine_frame) (depth : ℕ) → ShowsFrame m sh f depth →
     (s : State) → Refines m s → listed (Some (A_frame (record { method = f.method; place = f.place }))) ≡ listed (place_in (over s.tasks depth))
-place_reported m sh f depth shown s st = search (arith, nat_tests, shown.there s st)
+place_reported m sh f depth shown s st =
+    let fr = shown.there s st in
+    ap (λ spot. listed (Some (A_frame spot))) (same_spot f fr.0 fr.2) ∙ sym (ap (λ o. listed (place_in o)) fr.1)
 
 trap_alike : (o : Option Machine_task) (u : Option Task) → SameOver o u → trap_held o ≡ trap_by u
 trap_alike o u same = grind arith
@@ -234,9 +236,12 @@ typed_register p m f sh depth shown method shape t strongest s st i =
     same_answer (λ k. register sh k) (λ k. kinds_of t (over s.tasks depth) k)
     (λ k. sym (kind.2 k) ∙ ap (λ x. kind_in x k) there ∙ sym (ap (λ o. kinds_of t o k) fr.1)) s.cells depth (over s.tasks depth) i
 
--- what is no frame has no register, and works on nothing
+-- what is no frame has no register, works on nothing and stands nowhere
 pub no_register : (kinds : ℕ → Kind) (cs : List Cell) (depth : ℕ) (o : Option Task) (i : ℕ) → is_frame o ≡ false → register_in kinds cs depth o i ≡ None
 no_register kinds cs depth x i none = grind arith
 
 pub no_receiver : (o : Option Task) → is_frame o ≡ false → null ≡ receiver_over o
 no_receiver x none = grind arith
+
+pub no_spot : (o : Option Task) → is_frame o ≡ false → None ≡ spot_over o
+no_spot x none = grind arith

@@ -127,11 +127,19 @@ frame_text ns t s depth = answers_by ns (frame_answers t s depth) ++ receiver_te
 abbrev pub frames_text : NameLists → Typing → State → List ℕ
 frames_text ns t s = gathered (frame_text ns t s) (length s.tasks)
 
--- ---- a register of the innermost method
+-- ---- the innermost method
 
 -- how many tasks the innermost stands over
 abbrev pub innermost : State → ℕ
 innermost s = length s.tasks - 1
+
+-- where it stands, if it is a method
+abbrev pub spot_over : Option Task → Option CodeLocation
+spot_over (Some (Run fr)) = Some (frame_spot fr)
+spot_over _ = None
+
+abbrev pub innermost_spot : State → Option CodeLocation
+innermost_spot s = spot_over (over s.tasks (innermost s))
 
 abbrev pub register_shown : Typing → State → ℕ → Option Answer
 register_shown t s i = register_in (λ k. kinds_of t (over s.tasks (innermost s)) k) s.cells (innermost s) (over s.tasks (innermost s)) i

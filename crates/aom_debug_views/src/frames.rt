@@ -13,7 +13,7 @@ ghost use Rattle.aom_semantics.specs.Owned.{over};
 ghost use Rattle.aom_semantics.specs.Places.{Place, Register, held};
 ghost use Rattle.aom_semantics.specs.State.{Frame as FrameRecord, Run, State, word};
 ghost use Rattle.aom_debug_protocol.specs.declared.answer.Content.TheVariants.{Message, Word};
-ghost use Rattle.aom_debug_views.specs.Frames.{RegisterShows, ShowsFrame, content_by, frame_answers, frame_lines, frame_text, frames_text, kinds_of, loop_answer, loops_in, owned_content, receiver_over, receiver_text, register_in, register_shown, registers_in, place_in, trap_held, trap_in, trap_under};
+ghost use Rattle.aom_debug_views.specs.Frames.{RegisterShows, ShowsFrame, content_by, frame_answers, frame_lines, frame_text, frames_text, innermost_spot, kinds_of, loop_answer, loops_in, owned_content, receiver_over, receiver_text, register_in, register_shown, registers_in, spot_over, place_in, trap_held, trap_in, trap_under};
 ghost use Rattle.aom_debug_views.specs.Owners.{Shows, source_at};
 ghost use Rattle.aom_debug_views.specs.Reporting.{Reports, ReportsPart, answers_by, listed};
 
@@ -287,6 +287,23 @@ pub fn report_frames<W: Sink>(
         report_depth(parts, accepted, depth, names, out)?;
     }
     Ok(())
+}
+
+/// Where the method stands that is the task over so many others, if that is one.
+fn spot_over(parts: &Parts, depth: usize) -> Option<CodeLocation>
+    ensures { (p : Image) (s : State) → Refines (record { image = p; parts = parts.now }) s → result ≡ spot_over (over s.tasks depth) }
+{
+    match frame_at(parts, depth) {
+        Some(frame) => Some(spot_of(&frame)),
+        None => None,
+    }
+}
+
+/// Where the innermost method stands, if the innermost task is one.
+pub fn innermost_spot(parts: &Parts) -> Option<CodeLocation>
+    ensures { (p : Image) (s : State) → Refines (record { image = p; parts = parts.now }) s → result ≡ innermost_spot s }
+{
+    spot_over(parts, parts.stack.len().saturating_sub(1))
 }
 
 /// A register of the method that is the task over so many others, as it is told.

@@ -32,7 +32,7 @@ pub use breaks::report_breaks;
 pub use cells::report_cells;
 pub use cleanup::report_cleanup;
 pub use clock::report_clock;
-pub use frames::{receiver_at, register_at, report_frames};
+pub use frames::{innermost_spot, receiver_at, register_at, report_frames};
 pub use holding::{Holding, Owner, held_at};
 pub use laws::{order_of_choice_is_one, owners_are_reported_once};
 pub use owners::{entries_at, frames_at, goings_at, report_owners};

@@ -4,7 +4,7 @@ use Rattle.std.proofs.Math.Seq.{take-suc}
 use Rattle.std.proofs.lemmas.Bool.{eq-eqb, ne_eqb}
 use Rattle.std.proofs.lemmas.List.{at_drop_more, take-append-drop, take_all}
 use Rattle.std.proofs.lemmas.Result.{err_from_is_err_and}
-use Rattle.aom_debug.proofs.SessionInvariants.{breaks_in_line, goes_all, goes_byte, goes_line}
+use Rattle.aom_debug.proofs.SessionInvariants.{breaks_in_line, goes_all, goes_byte, goes_line, said_in_each}
 use Rattle.aom_debug.proofs.session_loop.observe.Goals as goal
 use Rattle.aom_debug.proofs.session_loop.observe.Goals.{then-byte-eq10+in_ok-execute, else-byte-eq10}
 
@@ -29,7 +29,8 @@ loop-byte-preserved g c =
         goes = goes_line c.args.debugger.now c.loop-byte.debugger first c.loop-byte.pending here mid (take i bytes) (take (i + 1) bytes) byte
             (up_to bytes i c.loop-byte-test.true) far.goes w.execute.new.debugger w.take_named-said.new.pending (g.W.Sink.out w.execute.new.out)
             (g.W.Sink.failed w.execute.new.out) w.take_named-said.result (eq-eqb byte 10 w.if-byte-eq10.true)
-            w.take_named-said.ensures.anew w.take_named-said.ensures.said w.execute.ensures.keeps w.in_ok-execute.ensures.ok;
+            w.take_named-said.ensures.anew (said_in_each c.loop-byte.debugger c.loop-byte.pending w.here.result _ w.here.ensures w.take_named-said.ensures.said)
+            w.execute.ensures.keeps w.in_ok-execute.ensures.ok;
         well = w.in_ok-execute.ensures.ok.well;
         ready = w.execute.ensures.keeps.ready;
         agree = w.execute.ensures.agree;
@@ -54,7 +55,8 @@ returns-in_err-execute-clause-err g c =
       breaks_in_line c.args.debugger.now c.loop-byte.debugger c.args.pending.now c.loop-byte.pending
           (g.W.Sink.out c.args.out.now) (g.W.Sink.out c.loop-byte.out) (take i bytes) (drop (i + 1) bytes) bytes byte (from_on bytes i c.loop-byte-test.true)
           c.loop-byte.invariant.goes (g.W.Sink.out c.execute.new.out) (g.W.Sink.failed c.execute.new.out) c.take_named-said.result
-          (eq-eqb byte 10 c.if-byte-eq10.true) c.take_named-said.ensures.said c.in_err-execute.ensures.err.1,
+          (eq-eqb byte 10 c.if-byte-eq10.true) (said_in_each c.loop-byte.debugger c.loop-byte.pending c.here.result _ c.here.ensures c.take_named-said.ensures.said)
+          c.in_err-execute.ensures.err.1,
     )
 
 pub returns-clause-ok : goal.returns-clause-ok
