@@ -24,7 +24,7 @@ mod dispatch;
 mod ends;
 mod laws;
 mod limit;
-mod lining;
+mod line_steps;
 mod next;
 mod over;
 mod run_goals;

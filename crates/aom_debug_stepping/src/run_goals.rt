@@ -9,7 +9,7 @@ ghost use Rattle.aom_debug_stepping.specs.RunGoals.{GoesBy, GoesOn, change_by, r
 
 use crate::dispatch::{DispatchGoal, run_in_dispatch};
 use crate::limit::cut_at_limit;
-use crate::lining::run_lines;
+use crate::line_steps::run_lines;
 use crate::source_lines::LineSteps;
 use crate::walking::{Until, is_idle, walk_unless};
 use crate::watching::{Watched, is_local};

@@ -10,7 +10,7 @@ use Rattle.aom_debug_stepping.specs.SourceLines.{scope_at}
 use Rattle.aom_debug_stepping.proofs.SourceSteps.{LinesSo, all_lines, lines_cut, no_line, one_line_more}
 use Rattle.aom_debug_stepping.proofs.Keeping.{keeps_all, keeps_on, observed_as}
 use Rattle.aom_debug_stepping.proofs.Typed.{strongest_as}
-use Rattle.aom_debug_stepping.proofs.lining.run_lines.Goals as goal
+use Rattle.aom_debug_stepping.proofs.line_steps.run_lines.Goals as goal
 
 pub loop-done-init : goal.loop-done-init
 loop-done-init g c =

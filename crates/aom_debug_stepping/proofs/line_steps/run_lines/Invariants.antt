@@ -5,7 +5,7 @@ use Rattle.aom_typing_rules.specs.Typing.{Typing}
 use Rattle.aom_debug_stepping.specs.Runners.{KeepsRunner, outside_of}
 use Rattle.aom_debug_stepping.specs.Sends.{Sends}
 use Rattle.aom_debug_stepping.proofs.SourceSteps.{LinesSo}
-use Rattle.aom_debug_stepping.proofs.lining.run_lines.Given as goal
+use Rattle.aom_debug_stepping.proofs.line_steps.run_lines.Given as goal
 
 abbrev pub invariant-loop-done : goal.invariant-loop-done
 invariant-loop-done g l = record {
