@@ -1,0 +1,5 @@
+mod Sending
+mod Requests
+mod Queued
+mod Kept
+pub use Rattle.aom_debug_views.proofs.DebugViewsLemmas
