@@ -13,6 +13,7 @@ use Rattle.aom_image.specs.declared.class.ClassKind.TheVariants as kinds
 use Rattle.aom_image.specs.declared.class.Provider.{Provider}
 use Rattle.aom_image.specs.declared.method.Thing.{Thing}
 use Rattle.aom_image.specs.declared.method.Thing.TheVariants.{Object as An_object_of, Message as A_message}
+use Rattle.aom_machine_instructions.specs.Requests.{provider_of}
 use Rattle.aom_roles.specs.Classes.{sessions_in, sessions_of}
 use Rattle.aom_roles.specs.Shapes.{kind_of}
 use Rattle.aom_scheduler.specs.Pending.{due_of}
@@ -25,7 +26,7 @@ use Rattle.aom_semantics.specs.Natives.{is_owed}
 use Rattle.aom_semantics.specs.Places.{Object, Request, Service}
 use Rattle.aom_semantics.specs.Servers.{has_more, is_server}
 use Rattle.aom_debug_views.specs.CellViews.{class_in, class_of}
-use Rattle.aom_debug_waiting.specs.Waiting.{due_if, provider_in, request_by, shown_at}
+use Rattle.aom_debug_waiting.specs.Waiting.{due_if, request_by, shown_at}
 
 -- ---- timers
 
@@ -67,7 +68,7 @@ no_value (Some x) is = absurd (false≢true (sym is))
 -- ---- who completes it
 
 -- what is of an active class has no queue
-active_kind : (k : Option ClassKind) (provider : Provider) → provider_in k ≡ Some provider → is_some (sessions_in k) ≡ false
+active_kind : (k : Option ClassKind) (provider : Provider) → provider_of k ≡ Some provider → is_some (sessions_in k) ≡ false
 unfolding sessions_in sessions_of
 active_kind None provider is = refl
 active_kind (Some kinds.Plain) provider is = refl
@@ -76,19 +77,19 @@ active_kind (Some (kinds.Server most session)) provider is = absurd (none-some p
 active_kind (Some kinds.Session) provider is = refl
 
 -- a message is of no class
-no_class_kind : (p : Image) (provider : Provider) → provider_in (kind_of p None) ≡ Some provider → ⊥
+no_class_kind : (p : Image) (provider : Provider) → provider_of (kind_of p None) ≡ Some provider → ⊥
 unfolding kind_of
 no_class_kind p provider is = none-some provider is
 
-pub no_queue : (p : Image) (o : Option Object) (v : Service) (provider : Provider) → provider_in (kind_of p (class_of o)) ≡ Some provider → queue_in p o v ≡ None
+pub no_queue : (p : Image) (o : Option Object) (v : Service) (provider : Provider) → provider_of (kind_of p (class_of o)) ≡ Some provider → queue_in p o v ≡ None
 no_queue p None v provider is = refl
 no_queue p (Some o) v provider is = go o.thing is
   where
-    go : (t : Thing) → provider_in (kind_of p (class_in t)) ≡ Some provider → cond (is_server p t) (Some (has_more v.queue)) None ≡ None
+    go : (t : Thing) → provider_of (kind_of p (class_in t)) ≡ Some provider → cond (is_server p t) (Some (has_more v.queue)) None ≡ None
     go (An_object_of class) is = ap (λ b. cond b (Some (has_more v.queue)) None) (active_kind (kind_of p (Some class)) provider is)
     go A_message is = absurd (no_class_kind p provider is)
 
-pub no_kind : (p : Image) (r : Option Request) (n : ℕ) → None ≡ request_by (provider_in (kind_of p None)) r n
+pub no_kind : (p : Image) (r : Option Request) (n : ℕ) → None ≡ request_by (provider_of (kind_of p None)) r n
 unfolding kind_of
 no_kind p r n = refl
 
@@ -102,8 +103,23 @@ module _ (provider : Provider) (n : ℕ) where
   pub asked_shown : (q : Option Machine_request) (r : Option Request) (w : Option Bool) → Reports_request q r w → w ≡ None →
       (state : Machine_state) (status : ℤ) (owed : Bool) (due : Option ℕ) → Some state ≡ state_of q → status_of q ≡ Some status → owed ≡ is_owed r → due ≡ due_in r →
       Some (shown_at provider (phase_of state) owed status due n) ≡ request_by (Some provider) r n
-  asked_shown q r w reports plain state status owed due is at open timed = grind arith
+  asked_shown None None w reports plain state status owed due is at open timed = absurd (none-some state (sym is))
+  asked_shown None (Some r) w reports plain state status owed due is at open timed = absurd reports
+  asked_shown (Some q) None w reports plain state status owed due is at open timed = absurd reports
+  asked_shown (Some (Machine_object other x)) (Some r) None reports plain state status owed due is at open timed =
+      ap (λ y. Some (shown_at provider (phase_of y) owed status due n)) (same_Some state other is)
+      ∙ ap (λ y. Some (shown_at provider y owed status due n)) reports.0
+      ∙ ap (λ y. Some (shown_at provider r.phase y status due n)) open
+      ∙ ap (λ y. Some (shown_at provider r.phase (is_owed (Some r)) y due n)) (sym (same_Some x status at) ∙ reports.1)
+      ∙ ap (λ y. Some (shown_at provider r.phase (is_owed (Some r)) r.status y n)) timed
+  asked_shown (Some (Machine_object other x)) (Some r) (Some b) reports plain state status owed due is at open timed = absurd reports
+  asked_shown (Some (Machine_server b)) (Some r) w reports plain state status owed due is at open timed = absurd (none-some state (sym is))
 
   pub none_asked : (q : Option Machine_request) (r : Option Request) (w : Option Bool) → Reports_request q r w → w ≡ None → None ≡ state_of q →
       None ≡ request_by (Some provider) r n
-  none_asked q r w reports plain is = grind arith
+  none_asked None None w reports plain is = refl
+  none_asked None (Some r) w reports plain is = absurd reports
+  none_asked (Some q) None w reports plain is = absurd reports
+  none_asked (Some (Machine_object other x)) (Some r) w reports plain is = absurd (none-some other is)
+  none_asked (Some (Machine_server b)) (Some r) None reports plain is = absurd reports
+  none_asked (Some (Machine_server b)) (Some r) (Some x) reports plain is = absurd (none-some x (sym plain))

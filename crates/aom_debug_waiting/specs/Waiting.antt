@@ -7,12 +7,11 @@ use Rattle.aom_clients.specs.declared.entry.QueueEntry.{QueueEntry}
 use Rattle.aom_clients.specs.declared.entry.QueueEntry.TheVariants as entries
 use Rattle.aom_clients.specs.declared.entry.TakenEntry.{TakenEntry}
 use Rattle.aom_image.specs.Image.{Image}
-use Rattle.aom_image.specs.declared.class.ClassKind.{ClassKind}
-use Rattle.aom_image.specs.declared.class.ClassKind.TheVariants.{Active as An_active}
 use Rattle.aom_image.specs.declared.class.Provider.{Provider}
 use Rattle.aom_image.specs.declared.class.Provider.TheVariants as providers
 use Rattle.aom_image.specs.declared.method.Thing.{Thing}
 use Rattle.aom_image.specs.declared.method.Thing.TheVariants.{Object as An_object_of, Message as A_message}
+use Rattle.aom_machine_instructions.specs.Requests.{provider_of}
 use Rattle.aom_roles.specs.Shapes.{kind_of}
 use Rattle.aom_scheduler.specs.declared.timer.Timer.{Timer}
 use Rattle.aom_semantics.specs.Natives.{is_owed}
@@ -33,11 +32,6 @@ use Rattle.aom_debug_waiting.specs.declared.unfinished.Unfinished.{Unfinished}
 use Rattle.aom_debug_waiting.specs.declared.unfinished.Unfinished.TheVariants as things
 
 -- ---- a request
-
--- who completes the requests of objects of a class
-abbrev pub provider_in : Option ClassKind → Option Provider
-provider_in (Some (An_active provider)) = Some provider
-provider_in _ = None
 
 -- a timer that runs
 abbrev pub timed : (due : Option ℕ) → Unfinished
@@ -72,7 +66,7 @@ request_by (Some provider) (Some r) name = Some (shown_at provider r.phase (is_o
 
 -- of the object of that name, if it is enlisted and no server, which makes none
 abbrev pub request_told : Image → List Cell → ℕ → Option Unfinished
-request_told p cs n = request_by (provider_in (kind_of p (class_of (named cs n)))) (requested cs n) n
+request_told p cs n = request_by (provider_of (kind_of p (class_of (named cs n)))) (requested cs n) n
 
 -- when the object's timer is due, if this is its timer
 abbrev pub due_if : ℕ → Option Timer → Option ℕ

@@ -3,13 +3,14 @@ ghost use Rattle.std.specs.Prelude.{◌≡◌, None, Some, slice_get};
 ghost use Rattle.aom_active_objects.specs.Agrees.{phase_of, queued};
 ghost use Rattle.aom_cells.specs.Heap.{Lives};
 ghost use Rattle.aom_image.specs.Image.{Image};
+ghost use Rattle.aom_machine_instructions.specs.Requests.{provider_of};
 ghost use Rattle.aom_machine_state.specs.Stands.{Refines};
 ghost use Rattle.aom_roles.specs.Shapes.{kind_of};
 ghost use Rattle.aom_scheduler.specs.Pending.{due_of};
 ghost use Rattle.aom_semantics.specs.Places.{requested};
 ghost use Rattle.aom_semantics.specs.Requests.{is_idle};
 ghost use Rattle.aom_semantics.specs.State.{State as StateRecord};
-ghost use Rattle.aom_debug_waiting.specs.Waiting.{completed_at, due_if, open_at, pending_at, provider_in, request_by, request_told, shown_at, timed};
+ghost use Rattle.aom_debug_waiting.specs.Waiting.{completed_at, due_if, open_at, pending_at, request_by, request_told, shown_at, timed};
 
 use crate::Unfinished;
 use aom_cells::CellId;
@@ -20,7 +21,7 @@ use aom_scheduler::{RequestState, Timer};
 
 /// Who completes the requests of objects of a class of that kind.
 fn provider_in(kind: ClassKind) -> Option<Provider>
-    ensures { result ≡ provider_in (Some kind) }
+    ensures { result ≡ provider_of (Some kind) }
 {
     match kind {
         ClassKind::Active { provider } => Some(provider),
@@ -29,8 +30,8 @@ fn provider_in(kind: ClassKind) -> Option<Provider>
 }
 
 /// Who completes the requests of objects of a class.
-fn provider_of(linked: &Linked, class: u16) -> Option<Provider>
-    ensures { result ≡ provider_in (kind_of linked.now (Some class)) }
+fn provider_at(linked: &Linked, class: u16) -> Option<Provider>
+    ensures { result ≡ provider_of (kind_of linked.now (Some class)) }
 {
     match linked.image().classes().as_slice().get(usize::from(class)) {
         Some(class) => provider_in(class.kind),
@@ -173,7 +174,7 @@ fn request_of(parts: &Parts, linked: &Linked, id: CellId) -> Option<Unfinished>
     requires { Lives parts.now.cells id }
     ensures { (s : StateRecord) → Refines (record { image = linked.now; parts = parts.now }) s → result ≡ request_told linked.now s.cells id }
 {
-    match provider_of(linked, parts.cells.class(id)) {
+    match provider_at(linked, parts.cells.class(id)) {
         Some(provider) => request_by(parts, id, provider),
         None => None,
     }

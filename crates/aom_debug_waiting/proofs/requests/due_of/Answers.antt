@@ -1,5 +1,6 @@
 -- One timer after another, until it is the object's.
 use Rattle.std.proofs.Common.{◌∙◌, add-one, ap, arith, length, sym}
+use Rattle.std.specs.Prelude.{is_some}
 use Rattle.std.proofs.lemmas.List.{take_all}
 use Rattle.aom_scheduler.specs.Pending.{due_of}
 use Rattle.aom_debug_waiting.proofs.Requests.{found_at, no_value, none_next}
@@ -9,7 +10,8 @@ pub returns-then-is_some : goal.returns-then-is_some
 returns-then-is_some c =
     let ts = c.args.parts.now.active.pending.timers in
     let k = c.loop-place.place in
-    rw c.due_at-due.ensures (found_at c.args.id ts k c.loop-place.invariant (rw c.due_at-due.ensures at (sym c.is_some.ensures ∙ c.if-is_some.true)))
+    c.due_at-due.ensures ∙ found_at c.args.id ts k c.loop-place.invariant
+    (ap is_some (sym c.due_at-due.ensures) ∙ sym c.is_some.ensures ∙ c.if-is_some.true)
 
 pub loop-place-preserved : goal.loop-place-preserved
 loop-place-preserved c =

@@ -4,7 +4,7 @@ use Rattle.std.proofs.lemmas.Option.{gets}
 use Rattle.aom_image.specs.Views.{class_at}
 use Rattle.aom_roles.specs.Classes.{kind_in}
 use Rattle.aom_roles.specs.Shapes.{kind_of}
-use Rattle.aom_debug_waiting.proofs.requests.provider_of.Goals as goal
+use Rattle.aom_debug_waiting.proofs.requests.provider_at.Goals as goal
 
 pub returns-in-Some : goal.returns-in-Some
 unfolding class_at kind_in kind_of
