@@ -1,5 +1,5 @@
 //! A line of what is unfinished.
-ghost use Rattle.std.specs.Prelude.{◌≡◌, ◌++◌, IfErr, IfOk};
+ghost use Rattle.std.specs.Prelude.{◌≡◌, ◌++◌, IfErr, IfOk, Some};
 ghost use Rattle.aom_transcript.specs.Sinks.{after};
 ghost use Rattle.aom_transcript.specs.Text.{ended};
 ghost use Rattle.aom_debug_views.specs.Reporting.{IsCut};
