@@ -97,6 +97,13 @@ pub no_class : (o : Option Machine_cell) → (IsSome o → ⊥) → class_of_cel
 no_class None none = refl
 no_class (Some c) none = absurd (none refl)
 
+-- who has a request in the machine has one in the state
+pub as_enlisted : (q : Option Machine_request) (r : Option Request) (w : Option Bool) → Reports_request q r w → is_some q ≡ is_some r
+as_enlisted None None w reports = refl
+as_enlisted None (Some r) w reports = absurd reports
+as_enlisted (Some q) None w reports = absurd reports
+as_enlisted (Some q) (Some r) w reports = refl
+
 -- ---- the request
 
 module _ (provider : Provider) (n : ℕ) where

@@ -1,5 +1,5 @@
 -- What is unfinished in a state, by the paths of the map of owners.
-use Rattle.std.specs.Prelude.{ℕ, ℤ, Bool, cond, ◌==◌, List, [], ◌∷◌, ◌++◌, length, codes, decimal, Option, Some, None, option_map, slice_get}
+use Rattle.std.specs.Prelude.{ℕ, ℤ, Bool, false, true, cond, is_some, ◌==◌, ◌&&◌, List, [], ◌∷◌, ◌++◌, length, codes, decimal, Option, Some, None, option_map, slice_get}
 use Rattle.std.specs.Fmt.{signed_decimal}
 use Rattle.std.specs.List.{flat_map}
 use Rattle.aom_active_objects.specs.Agrees.{due_in}
@@ -22,7 +22,7 @@ use Rattle.aom_transcript.specs.Text.{ended}
 use Rattle.aom_debug_protocol.specs.declared.answer.Source.{Source}
 use Rattle.aom_debug_symbols.specs.Answers.{observer_by}
 use Rattle.aom_debug_symbols.specs.NameLists.{NameLists}
-use Rattle.aom_debug_views.specs.CellViews.{class_of}
+use Rattle.aom_debug_views.specs.CellViews.{class_of, counted}
 use Rattle.aom_debug_views.specs.Owners.{At_service, outer_text, source_in, way_text}
 use Rattle.aom_debug_views.specs.Reporting.{gathered}
 use Rattle.aom_debug_views.specs.Seeking.{way_in}
@@ -119,7 +119,36 @@ kept_told cs n field = option_map (λ source. things.Kept field source) (source_
 abbrev pub served_told : List Cell → Option Unfinished
 served_told cs = option_map (λ source. things.Served source) (source_held cs (held cs (Elsewhere In_service)))
 
+-- ---- what still happens
+
+-- an object goes on where something else than a token completes its request, and a server, which makes none, where it is enlisted: clients may ask it
+abbrev pub goes_by : Option Unfinished → (enlisted : Bool) → Bool
+goes_by None enlisted = enlisted
+goes_by (Some things.Idle) enlisted = false
+goes_by (Some things.Token) enlisted = false
+goes_by (Some what) enlisted = true
+
+abbrev pub goes_on : Image → List Cell → ℕ → Bool
+goes_on p cs n = goes_by (request_told p cs n) (is_some (requested cs n))
+
+-- so many tasks are at hand, and so many objects go on: nothing happens any more where there are none
+abbrev pub are_none : (tasks going : ℕ) → Bool
+are_none tasks going = (tasks == 0) && (going == 0)
+
+abbrev pub is_still : Image → State → Bool
+is_still p s = are_none (length s.tasks) (counted (goes_on p s.cells) p.header.cells)
+
+-- who waits for a token then waits for good
+abbrev pub closing_by : Option Unfinished → (still : Bool) → Option Unfinished
+closing_by (Some things.Token) true = Some things.Nobody
+closing_by request still = None
+
 -- ---- lines
+
+-- what stands before the path
+abbrev pub head_text : Unfinished → List ℕ
+head_text things.Nobody = codes "nobody will complete: "
+head_text what = []
 
 -- with a space before it
 abbrev pub queued_text : (ahead : ℕ) → List ℕ → (client : ℕ) → List ℕ
@@ -138,6 +167,7 @@ unfinished_text ns (things.Message ahead client) = queued_text ahead (codes " me
 unfinished_text ns (things.Close ahead client) = queued_text ahead (codes " close ") client
 unfinished_text ns (things.Kept field source) = codes ".f" ++ decimal field ++ codes " " ++ observer_by ns source
 unfinished_text ns (things.Served source) = codes " " ++ observer_by ns source
+unfinished_text ns things.Nobody = []
 
 -- something unfinished, and the path of the object at which it is
 pub record Told : Type 0 where
@@ -145,7 +175,7 @@ pub record Told : Type 0 where
   pub what : Unfinished
 
 abbrev pub told_line : NameLists → Told → List ℕ
-told_line ns x = x.path ++ ended (unfinished_text ns x.what)
+told_line ns x = head_text x.what ++ (x.path ++ ended (unfinished_text ns x.what))
 
 abbrev pub told_text : NameLists → List Told → List ℕ
 told_text ns xs = flat_map (told_line ns) xs
@@ -187,5 +217,12 @@ objects_told p s = gathered (object_told p s) p.header.cells
 abbrev pub service_told : State → List Told
 service_told s = told (Some (outer_text At_service)) (served_told s.cells)
 
+-- the objects that nobody will complete
+abbrev pub closing_told : Image → State → ℕ → List Told
+closing_told p s n = told (path_of s n) (closing_by (request_told p s.cells n) (is_still p s))
+
+abbrev pub closings_told : Image → State → List Told
+closings_told p s = gathered (closing_told p s) p.header.cells
+
 abbrev pub waiting_told : Image → State → List Told
-waiting_told p s = objects_told p s ++ service_told s
+waiting_told p s = objects_told p s ++ (service_told s ++ closings_told p s)

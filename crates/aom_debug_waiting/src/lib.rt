@@ -6,6 +6,7 @@
 //! memory, by signature. It knows no commands and no natives.
 #![tactic(auto)]
 
+mod closing;
 mod kept;
 mod queued;
 mod requests;

@@ -3,10 +3,10 @@ ghost use Rattle.std.specs.Prelude.{◌≡◌, ◌++◌, IfErr, IfOk, Some};
 ghost use Rattle.aom_transcript.specs.Sinks.{after};
 ghost use Rattle.aom_transcript.specs.Text.{ended};
 ghost use Rattle.aom_debug_views.specs.Reporting.{IsCut};
-ghost use Rattle.aom_debug_waiting.specs.Waiting.{told, told_text, unfinished_text};
+ghost use Rattle.aom_debug_waiting.specs.Waiting.{head_text, told, told_text, unfinished_text};
 
 use crate::Unfinished;
-use crate::unfinished::tail_of;
+use crate::unfinished::{head_of, tail_of};
 use aom_debug_protocol::DebugFault;
 use aom_debug_symbols::SourceNames;
 use aom_debug_views::{PathText, send};
@@ -21,17 +21,18 @@ fn send_both<W: Sink>(head: &[u8], tail: &[u8], out: &mut W) -> Result<(), Debug
     send(tail, out)
 }
 
-/// Writes a path, and what is unfinished at its object.
+/// Writes what stands before a path, the path, and what is unfinished at its object.
 fn send_told<W: Sink>(
     names: &SourceNames,
     path: &[u8],
     what: Unfinished,
     out: &mut W,
 ) -> Result<(), DebugFault>
-    ensures ok { IfOk result (λ _. W.out out.new ≡ after (W.out out.old) (path.now ++ ended (unfinished_text names.now what))) }
-    ensures err { IfErr result (λ fault. IsCut (path.now ++ ended (unfinished_text names.now what)) fault (W.failed out.new) (W.out out.old) (W.out out.new)) }
+    ensures ok { IfOk result (λ _. W.out out.new ≡ after (W.out out.old) (head_text what ++ (path.now ++ ended (unfinished_text names.now what)))) }
+    ensures err { IfErr result (λ fault. IsCut (head_text what ++ (path.now ++ ended (unfinished_text names.now what))) fault (W.failed out.new) (W.out out.old) (W.out out.new)) }
 {
     let tail = tail_of(names, what);
+    send(head_of(what), out)?;
     send_both(path, tail.as_bytes(), out)
 }
 

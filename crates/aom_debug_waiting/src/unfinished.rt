@@ -2,7 +2,7 @@
 ghost use Rattle.std.specs.Prelude.{◌≡◌, ◌+◌, ◌≤◌, [], ◌++◌, codes, decimal, length};
 ghost use Rattle.aom_transcript.specs.Text.{ended};
 ghost use Rattle.aom_debug_symbols.specs.Answers.{observer_by};
-ghost use Rattle.aom_debug_waiting.specs.Waiting.{queued_text, unfinished_text};
+ghost use Rattle.aom_debug_waiting.specs.Waiting.{head_text, queued_text, unfinished_text};
 
 use aom_debug_protocol::Source;
 use aom_debug_symbols::{SourceNames, add_class_name};
@@ -33,6 +33,18 @@ pub enum Unfinished {
     Kept(u8, Source),
     /// A message is served.
     Served(Source),
+    /// Nobody will complete its request.
+    Nobody,
+}
+
+/// What stands before a path.
+pub(crate) fn head_of(what: Unfinished) -> &'static [u8]
+    ensures { result.now ≡ head_text what }
+{
+    match what {
+        Unfinished::Nobody => b"nobody will complete: ".as_slice(),
+        _ => b"".as_slice(),
+    }
 }
 
 /// What stands behind a path, with its line feed.
@@ -64,6 +76,7 @@ fn add_unfinished(tail: &mut Tail, names: &SourceNames, what: Unfinished)
         Unfinished::Close(ahead, client) => add_queued(tail, ahead, b" close ", client),
         Unfinished::Kept(field, source) => add_kept(tail, names, field, source),
         Unfinished::Served(source) => add_source(tail, names, source),
+        Unfinished::Nobody => {}
     }
 }
 

@@ -6,6 +6,7 @@ ghost use Rattle.aom_debug_views.specs.Owners.{At_service, outer_text};
 ghost use Rattle.aom_debug_views.specs.Reporting.{Reports, ReportsPart};
 ghost use Rattle.aom_debug_waiting.specs.Waiting.{messages_told, object_at, object_told, objects_told, service_told, told_text, waiting_told};
 
+use crate::closing::report_closings;
 use crate::kept::{report_fields, served_told};
 use crate::queued::report_queue;
 use crate::requests::request_told;
@@ -119,7 +120,8 @@ fn report_service<W: Sink>(
 
 /// Tells what is unfinished, a line for each, by the path of the object at which it is: each enlisted object that is no server, by who
 /// completes its request; what waits in the queues of servers; the messages that objects keep; and the one that is served. What
-/// methods at hand and the cleanup stack have is in work, and has no line.
+/// methods at hand and the cleanup stack have is in work, and has no line. Then, where nothing happens any more, each object that
+/// waits for a token: nobody will complete its request.
 pub fn report_waiting<W: Sink>(
     parts: &Parts,
     accepted: &Accepted,
@@ -132,5 +134,6 @@ pub fn report_waiting<W: Sink>(
     ensures err { IfErr result (λ fault. ReportsPart (record { image = accepted.now; parts = parts.now }) (λ s. told_text names.now (waiting_told accepted.now s)) fault (W.failed out.new) (W.out out.old) (W.out out.new)) }
 {
     report_objects(parts, accepted, names, out)?;
-    report_service(parts, accepted, names, out)
+    report_service(parts, accepted, names, out)?;
+    report_closings(parts, accepted, names, out)
 }
