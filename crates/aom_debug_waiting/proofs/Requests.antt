@@ -110,17 +110,17 @@ module _ (provider : Provider) (n : ℕ) where
   pub asked_shown : (q : Option Machine_request) (r : Option Request) (w : Option Bool) → Reports_request q r w → w ≡ None →
       (state : Machine_state) (status : ℤ) (owed : Bool) (due : Option ℕ) → Some state ≡ state_of q → status_of q ≡ Some status → owed ≡ is_owed r → due ≡ due_in r →
       Some (shown_at provider (phase_of state) owed status due n) ≡ request_by (Some provider) r n
-  asked_shown None None w reports plain state status owed due is at open timed = absurd (none-some state (sym is))
-  asked_shown None (Some r) w reports plain state status owed due is at open timed = absurd reports
-  asked_shown (Some q) None w reports plain state status owed due is at open timed = absurd reports
-  asked_shown (Some (Machine_object other x)) (Some r) None reports plain state status owed due is at open timed =
+  asked_shown None None w reports plain state status owed due is at owes runs = absurd (none-some state (sym is))
+  asked_shown None (Some r) w reports plain state status owed due is at owes runs = absurd reports
+  asked_shown (Some q) None w reports plain state status owed due is at owes runs = absurd reports
+  asked_shown (Some (Machine_object other x)) (Some r) None reports plain state status owed due is at owes runs =
       ap (λ y. Some (shown_at provider (phase_of y) owed status due n)) (same_Some state other is)
       ∙ ap (λ y. Some (shown_at provider y owed status due n)) reports.0
-      ∙ ap (λ y. Some (shown_at provider r.phase y status due n)) open
+      ∙ ap (λ y. Some (shown_at provider r.phase y status due n)) owes
       ∙ ap (λ y. Some (shown_at provider r.phase (is_owed (Some r)) y due n)) (sym (same_Some x status at) ∙ reports.1)
-      ∙ ap (λ y. Some (shown_at provider r.phase (is_owed (Some r)) r.status y n)) timed
-  asked_shown (Some (Machine_object other x)) (Some r) (Some b) reports plain state status owed due is at open timed = absurd reports
-  asked_shown (Some (Machine_server b)) (Some r) w reports plain state status owed due is at open timed = absurd (none-some state (sym is))
+      ∙ ap (λ y. Some (shown_at provider r.phase (is_owed (Some r)) r.status y n)) runs
+  asked_shown (Some (Machine_object other x)) (Some r) (Some b) reports plain state status owed due is at owes runs = absurd reports
+  asked_shown (Some (Machine_server b)) (Some r) w reports plain state status owed due is at owes runs = absurd (none-some state (sym is))
 
   pub none_asked : (q : Option Machine_request) (r : Option Request) (w : Option Bool) → Reports_request q r w → w ≡ None → None ≡ state_of q →
       None ≡ request_by (Some provider) r n
