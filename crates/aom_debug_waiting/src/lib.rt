@@ -3,8 +3,7 @@
 //!
 //! `report_waiting` writes a line for each, by the path of the object at which it is: what went out is the text that `waiting_told` of
 //! `specs/Waiting.antt` says of each state that the machine stands for, or a beginning of it where the sink failed. No object is left out
-//! (`all_objects_are_told`). Nothing here takes
-//! memory, by signature. It knows no commands and no natives.
+//! (`all_objects_are_told`). Nothing here takes memory, by signature. It knows no commands and no natives.
 #![tactic(auto)]
 
 mod closing;
