@@ -80,12 +80,7 @@ pub(crate) fn report_fields<W: Sink>(
     ensures err { IfErr result (λ fault. ReportsPart (record { image = accepted.now; parts = parts.now }) (λ s. told_text names.now (fields_told path.now s.cells cell)) fault (W.failed out.new) (W.out out.old) (W.out out.new)) }
 {
     for field in 0..8u8 {
-        report_told(
-            names,
-            path,
-            kept_told(parts, accepted, cell, field),
-            out,
-        )?;
+        report_told(names, path, kept_told(parts, accepted, cell, field), out)?;
     }
     Ok(())
 }

@@ -156,14 +156,7 @@ fn request_by(parts: &Parts, id: CellId, provider: Provider) -> Option<Unfinishe
             let is_owed = parts.active.is_pending(id);
             let status = parts.active.status(id);
             let due = due_of(parts, id);
-            Some(shown_at(
-                provider,
-                state,
-                is_owed,
-                status,
-                due,
-                id.number(),
-            ))
+            Some(shown_at(provider, state, is_owed, status, due, id.number()))
         }
         None => None,
     }
