@@ -1,6 +1,6 @@
-mod Sending
-mod Requests
-mod Queued
-mod Kept
+mod Telling
+mod Providers
+mod Asked
+mod Keeping
 mod Below
 pub use Rattle.aom_debug_views.proofs.DebugViewsLemmas

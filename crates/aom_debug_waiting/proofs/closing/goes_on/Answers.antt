@@ -4,7 +4,7 @@ use Rattle.std.specs.Prelude.{is_some}
 use Rattle.aom_active_objects.specs.Agrees.{queued}
 use Rattle.aom_scheduler.specs.Requests.{request_at}
 use Rattle.aom_semantics.specs.Places.{requested}
-use Rattle.aom_debug_waiting.proofs.Requests.{as_enlisted}
+use Rattle.aom_debug_waiting.proofs.Providers.{as_enlisted}
 use Rattle.aom_debug_waiting.specs.Waiting.{goes_by, request_told}
 use Rattle.aom_debug_waiting.proofs.closing.goes_on.Goals as goal
 

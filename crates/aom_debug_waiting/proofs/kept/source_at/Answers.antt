@@ -1,7 +1,7 @@
 -- By what the place holds.
 use Rattle.std.proofs.Common.{◌∙◌}
 use Rattle.aom_debug_views.specs.Holdings.{place_of}
-use Rattle.aom_debug_waiting.proofs.Kept.{source_shown}
+use Rattle.aom_debug_waiting.proofs.Keeping.{source_shown}
 use Rattle.aom_debug_waiting.proofs.kept.source_at.Goals as goal
 
 pub returns : goal.returns

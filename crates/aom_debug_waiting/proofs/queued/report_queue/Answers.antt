@@ -4,7 +4,7 @@ use Rattle.std.proofs.lemmas.Result.{err_from_is_err_and}
 use Rattle.aom_semantics.specs.Places.{service_of}
 use Rattle.aom_semantics.specs.State.{State}
 use Rattle.aom_debug_waiting.proofs.DebugViewsLemmas.{reports_all, reports_next, reports_part}
-use Rattle.aom_debug_waiting.proofs.Queued.{as_many_asked, asked_reported}
+use Rattle.aom_debug_waiting.proofs.Asked.{as_many_asked, asked_reported}
 use Rattle.aom_debug_waiting.specs.Waiting.{Told, asked_told, told, told_line}
 use Rattle.aom_debug_waiting.proofs.queued.report_queue.Goals as goal
 

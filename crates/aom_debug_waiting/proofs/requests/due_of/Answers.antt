@@ -3,7 +3,7 @@ use Rattle.std.proofs.Common.{◌∙◌, add-one, ap, arith, length, sym}
 use Rattle.std.specs.Prelude.{is_some}
 use Rattle.std.proofs.lemmas.List.{take_all}
 use Rattle.aom_scheduler.specs.Pending.{due_of}
-use Rattle.aom_debug_waiting.proofs.Requests.{found_at, no_value, none_next}
+use Rattle.aom_debug_waiting.proofs.Providers.{found_at, no_value, none_next}
 use Rattle.aom_debug_waiting.proofs.requests.due_of.Goals as goal
 
 pub returns-then-is_some : goal.returns-then-is_some

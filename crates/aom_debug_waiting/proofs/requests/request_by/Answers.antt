@@ -4,7 +4,7 @@ use Rattle.std.proofs.lemmas.Int.{to_z-of_z}
 use Rattle.aom_active_objects.specs.Agrees.{queued}
 use Rattle.aom_scheduler.specs.Requests.{request_at}
 use Rattle.aom_semantics.specs.Places.{requested}
-use Rattle.aom_debug_waiting.proofs.Requests.{asked_shown, none_asked}
+use Rattle.aom_debug_waiting.proofs.Providers.{asked_shown, none_asked}
 use Rattle.aom_debug_waiting.proofs.requests.request_by.Goals as goal
 
 pub returns-in-Some : goal.returns-in-Some

@@ -4,7 +4,7 @@ use Rattle.aom_machine_instructions.specs.Requests.{provider_of}
 use Rattle.aom_roles.specs.Shapes.{kind_of}
 use Rattle.aom_semantics.specs.Places.{named, requested, service_of}
 use Rattle.aom_debug_waiting.proofs.DebugViewsLemmas.{class_named}
-use Rattle.aom_debug_waiting.proofs.Requests.{no_queue}
+use Rattle.aom_debug_waiting.proofs.Providers.{no_queue}
 use Rattle.aom_debug_waiting.specs.Waiting.{request_by}
 use Rattle.aom_debug_waiting.proofs.requests.request_of.Goals as goal
 

@@ -6,7 +6,7 @@ use Rattle.aom_machine_instructions.specs.Requests.{provider_of}
 use Rattle.aom_roles.specs.Shapes.{kind_of}
 use Rattle.aom_semantics.specs.Places.{requested}
 use Rattle.aom_debug_waiting.proofs.DebugViewsLemmas.{class_named}
-use Rattle.aom_debug_waiting.proofs.Requests.{no_class, no_kind}
+use Rattle.aom_debug_waiting.proofs.Providers.{no_class, no_kind}
 use Rattle.aom_debug_waiting.specs.Waiting.{request_by}
 use Rattle.aom_debug_waiting.proofs.requests.request_told.Goals as goal
 

@@ -1,6 +1,6 @@
 -- The first, then the second.
 use Rattle.std.proofs.lemmas.Result.{IfErr-weaker, err_from_is_err_and}
-use Rattle.aom_debug_waiting.proofs.Sending.{cut_in_first, cut_in_second}
+use Rattle.aom_debug_waiting.proofs.Telling.{cut_in_first, cut_in_second}
 use Rattle.aom_debug_waiting.proofs.sending.send_both.Goals as goal
 
 pub returns-in_err-send-clause-err : goal.returns-in_err-send-clause-err

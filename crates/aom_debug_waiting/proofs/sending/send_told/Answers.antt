@@ -1,6 +1,6 @@
 -- What stands before the path, the path, and the rest of its line.
 use Rattle.std.proofs.lemmas.Result.{IfErr-weaker, IfOk-weaker, err_from_is_err_and}
-use Rattle.aom_debug_waiting.proofs.Sending.{cut_in_first, cut_in_second, sent_on}
+use Rattle.aom_debug_waiting.proofs.Telling.{cut_in_first, cut_in_second, sent_on}
 use Rattle.aom_debug_waiting.proofs.sending.send_told.Goals as goal
 
 pub returns-in_err-send-clause-err : goal.returns-in_err-send-clause-err

@@ -4,7 +4,7 @@ use Rattle.std.proofs.lemmas.Result.{IfErr-weaker, IfOk-weaker, err_from_is_err_
 use Rattle.aom_image.specs.Image.{Image}
 use Rattle.aom_semantics.specs.State.{State}
 use Rattle.aom_machine_state.specs.Stands.{MachineModel}
-use Rattle.aom_debug_waiting.proofs.Sending.{cut_first, cut_later, part_value, reports_both, reports_value}
+use Rattle.aom_debug_waiting.proofs.Telling.{cut_first, cut_later, part_value, reports_both, reports_value}
 use Rattle.aom_debug_waiting.specs.Waiting.{Told, messages_told, request_told, told, told_line}
 use Rattle.aom_debug_waiting.proofs.waiting.report_at.Goals as goal
 

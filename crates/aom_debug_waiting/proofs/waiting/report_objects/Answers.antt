@@ -3,7 +3,7 @@ use Rattle.std.proofs.Common.{arith}
 use Rattle.std.proofs.lemmas.Result.{err_from_is_err_and}
 use Rattle.aom_machine_state.specs.Stands.{MachineModel}
 use Rattle.aom_debug_waiting.proofs.DebugViewsLemmas.{reports_all}
-use Rattle.aom_debug_waiting.proofs.Sending.{part_further, reports_further}
+use Rattle.aom_debug_waiting.proofs.Telling.{part_further, reports_further}
 use Rattle.aom_debug_waiting.specs.Waiting.{object_told, told_line}
 use Rattle.aom_debug_waiting.proofs.waiting.report_objects.Goals as goal
 

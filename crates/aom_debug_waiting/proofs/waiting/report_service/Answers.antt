@@ -3,7 +3,7 @@ use Rattle.std.proofs.Common.{◌∙◌, Some, ap}
 use Rattle.std.proofs.lemmas.Result.{IfErr-weaker, IfOk-weaker}
 use Rattle.aom_machine_state.specs.Stands.{MachineModel}
 use Rattle.aom_debug_views.specs.Owners.{At_service, outer_text}
-use Rattle.aom_debug_waiting.proofs.Sending.{part_value, reports_value}
+use Rattle.aom_debug_waiting.proofs.Telling.{part_value, reports_value}
 use Rattle.aom_debug_waiting.specs.Waiting.{service_told, told, told_line}
 use Rattle.aom_debug_waiting.proofs.waiting.report_service.Goals as goal
 

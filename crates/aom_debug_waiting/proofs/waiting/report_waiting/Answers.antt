@@ -4,7 +4,7 @@ use Rattle.std.proofs.lemmas.Result.{IfErr-weaker, IfOk-weaker, err_from_is_err_
 use Rattle.aom_image.specs.Image.{Image}
 use Rattle.aom_semantics.specs.State.{State}
 use Rattle.aom_machine_state.specs.Stands.{MachineModel}
-use Rattle.aom_debug_waiting.proofs.Sending.{cut_first, cut_later, reports_both}
+use Rattle.aom_debug_waiting.proofs.Telling.{cut_first, cut_later, reports_both}
 use Rattle.aom_debug_waiting.specs.Waiting.{Told, closings_told, objects_told, service_told, told_line}
 use Rattle.aom_debug_waiting.proofs.waiting.report_waiting.Goals as goal
 
