@@ -8,7 +8,7 @@ use Rattle.aom_run.specs.declared.machine.HostedMachine.{HostedMachine}
 use Rattle.aom_transcript.specs.Sinks.{after}
 use Rattle.aom_debug_protocol.specs.declared.command.Command.{Command}
 use Rattle.aom_debug_protocol.specs.declared.command.Command.TheVariants.{Step, MachineStep, Next, MachineNext, Finish, Turn, Go, Until, Break, Unbreak, Breaks, Clock, Frames}
-use Rattle.aom_debug_protocol.specs.declared.command.Command.TheVariants.{Help, Cells, Owners, Cleanup, Actives, History, Timers, Words, Queue, Print, Watch}
+use Rattle.aom_debug_protocol.specs.declared.command.Command.TheVariants.{Help, Cells, Owners, Cleanup, Actives, History, Timers, Waiting, Words, Queue, Print, Watch}
 use Rattle.aom_debug_protocol.specs.declared.fault.DebugFault.{DebugFault}
 use Rattle.aom_debug_protocol.specs.declared.fault.DebugFault.TheVariants.{BadCommand, Ended, NoSuch, NotThere, OutOfMemory, WriteFault}
 use Rattle.aom_debug.specs.RunGoals.{RunGoals, way_of}
@@ -143,6 +143,7 @@ module _ {X : Type 0} {B : X → Type 0} (old new : Debugger X B) (out : Outgoin
   is_done Cleanup x = looks_done (Sees inspect.Cleanup) x
   is_done Actives x = looks_done (Sees inspect.Actives) x
   is_done Timers x = looks_done (Sees inspect.Timers) x
+  is_done Waiting x = looks_done (Sees inspect.Waiting) x
   is_done History x = looks_done (Sees inspect.History) x
   is_done (Words w) x = looks_done (SeesWords w) x
   is_done (Queue w) x = looks_done (SeesQueue w) x
@@ -175,6 +176,7 @@ module _ {X : Type 0} {B : X → Type 0} (old new : Debugger X B) (out : Outgoin
   still_well Cleanup x = well_same x.1
   still_well Actives x = well_same x.1
   still_well Timers x = well_same x.1
+  still_well Waiting x = well_same x.1
   still_well History x = well_same x.1
   still_well (Words w) x = well_same x.1
   still_well (Queue w) x = well_same x.1
@@ -292,6 +294,7 @@ module _ {X : Type 0} {B : X → Type 0} (old new : Debugger X B) (out : Outgoin
   is_refused Cleanup fault other x = absurd (looks_refused (Sees inspect.Cleanup) fault other x)
   is_refused Actives fault other x = absurd (looks_refused (Sees inspect.Actives) fault other x)
   is_refused Timers fault other x = absurd (looks_refused (Sees inspect.Timers) fault other x)
+  is_refused Waiting fault other x = absurd (looks_refused (Sees inspect.Waiting) fault other x)
   is_refused History fault other x = absurd (looks_refused (Sees inspect.History) fault other x)
   is_refused (Words w) fault other x = let r = lacks_refused (SeesWords w) (LacksWords w) fault other x in subst (λ f. Refused (Words w) f) (sym r.0) (r.1, r.2)
   is_refused (Queue w) fault other x = let r = lacks_refused (SeesQueue w) (LacksQueue w) fault other x in subst (λ f. Refused (Queue w) f) (sym r.0) (r.1, r.2)
@@ -354,6 +357,7 @@ module _ {X : Type 0} {B : X → Type 0} (old new : Debugger X B) (out : Outgoin
   is_cut Cleanup x = looks_cut Cleanup (Sees inspect.Cleanup) (λ s text y. (refl, y)) x
   is_cut Actives x = looks_cut Actives (Sees inspect.Actives) (λ s text y. (refl, y)) x
   is_cut Timers x = looks_cut Timers (Sees inspect.Timers) (λ s text y. (refl, y)) x
+  is_cut Waiting x = looks_cut Waiting (Sees inspect.Waiting) (λ s text y. (refl, y)) x
   is_cut History x = looks_cut History (Sees inspect.History) (λ s text y. (refl, y)) x
   is_cut (Words w) x = looks_cut (Words w) (SeesWords w) (λ s text y. (refl, y)) x
   is_cut (Queue w) x = looks_cut (Queue w) (SeesQueue w) (λ s text y. (refl, y)) x

@@ -30,6 +30,7 @@ use Rattle.aom_debug_views.specs.Reporting.{answers_by, answers_text}
 use Rattle.aom_debug_views.specs.Seeking.{placed_by}
 use Rattle.aom_debug_paths.specs.Paths.{queue_answers, words_answers}
 use Rattle.aom_debug_paths.specs.Variables.{variable_answer}
+use Rattle.aom_debug_waiting.specs.Waiting.{told_text, waiting_told}
 use Rattle.aom_debug_protocol.specs.declared.variable.Variable.{Variable}
 use Rattle.aom_debug_protocol.specs.Ways.{Way}
 
@@ -113,6 +114,10 @@ ShowsClock s text = text ≡ clock_text s
 -- the timers that run, each on its line, the one that is due first before all others
 abbrev pub ShowsTimers : NameLists → State → List ℕ → Type 0
 ShowsTimers ns s text = (names : List ℕ) × InOrderOfTime s.cells names × (text ≡ placed_by ns (timers_placed ns s names))
+
+-- what is unfinished, each on its line
+abbrev pub ShowsWaiting : NameLists → Image → State → List ℕ → Type 0
+ShowsWaiting ns p s text = text ≡ told_text ns (waiting_told p s)
 
 -- the words of the object that is owned at a path
 abbrev pub ShowsWords : Image → State → Way → List ℕ → Type 0

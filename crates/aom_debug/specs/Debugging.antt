@@ -26,10 +26,10 @@ use Rattle.aom_debug_paths.specs.declared.following.Found.{Found}
 use Rattle.aom_machine_state.specs.Stands.{Refines as CoreStandsFor}
 use Rattle.aom_debug_protocol.specs.Ways.{Way}
 use Rattle.aom_debug.specs.Courses.{next_course, step_course}
-use Rattle.aom_debug.specs.Commands.{NamesNone, ShowsActives, ShowsBreaks, ShowsCells, ShowsCleanup, ShowsClock, ShowsFrames, ShowsHelp, ShowsOwners, ShowsQueue, ShowsRecent, ShowsTimers, ShowsWords, is_count, moved_text, place_text, spot_named, with_condition}
+use Rattle.aom_debug.specs.Commands.{NamesNone, ShowsActives, ShowsBreaks, ShowsCells, ShowsCleanup, ShowsClock, ShowsFrames, ShowsHelp, ShowsOwners, ShowsQueue, ShowsRecent, ShowsTimers, ShowsWaiting, ShowsWords, is_count, moved_text, place_text, spot_named, with_condition}
 use Rattle.aom_debug.specs.declared.debugger.Debugger.{Debugger}
 use Rattle.aom_debug.specs.declared.looking.Inspection.{Inspection}
-use Rattle.aom_debug.specs.declared.looking.Inspection.TheVariants.{Cells as At_cells, Owners as At_owners, Cleanup as At_cleanup, Actives as At_actives, History as At_recent, Breaks as At_breaks, Clock as At_clock, Frames as At_frames, Help as At_help, Timers as At_timers}
+use Rattle.aom_debug.specs.declared.looking.Inspection.TheVariants.{Cells as At_cells, Owners as At_owners, Cleanup as At_cleanup, Actives as At_actives, History as At_recent, Breaks as At_breaks, Clock as At_clock, Frames as At_frames, Help as At_help, Timers as At_timers, Waiting as At_waiting}
 
 -- what a call answers
 abbrev pub Answer : Type 0
@@ -208,6 +208,7 @@ module _ {X : Type 0} {B : X → Type 0} where
   Sees At_frames d s text = ShowsFrames d.names d.runner.machine.core.image s text
   Sees (At_help verb) d s text = ShowsHelp verb text
   Sees At_timers d s text = ShowsTimers d.names s text
+  Sees At_waiting d s text = ShowsWaiting d.names d.runner.machine.core.image s text
 
   -- what each state shows that the machine stands for is out
   abbrev pub Seen : (Debugger X B → State → List ℕ → Type 0) → Debugger X B → Option (List ℕ) → Option (List ℕ) → Type 0

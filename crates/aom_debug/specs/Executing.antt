@@ -1,7 +1,7 @@
 -- What each command asks of a debugger, and what a line of commands does.
 use Rattle.std.specs.Prelude.{◌≡◌, Option, Some, None, Result, Ok, Err, true, false}
 use Rattle.aom_debug_protocol.specs.declared.command.Command.{Command}
-use Rattle.aom_debug_protocol.specs.declared.command.Command.TheVariants.{Step, MachineStep, Next, MachineNext, Finish, Turn, Go, Until, Break, Unbreak, Breaks, Clock, Frames, Help, Cells, Owners, Cleanup, Actives, History, Timers, Words, Queue, Print, Watch}
+use Rattle.aom_debug_protocol.specs.declared.command.Command.TheVariants.{Step, MachineStep, Next, MachineNext, Finish, Turn, Go, Until, Break, Unbreak, Breaks, Clock, Frames, Help, Cells, Owners, Cleanup, Actives, History, Timers, Waiting, Words, Queue, Print, Watch}
 use Rattle.aom_debug_protocol.specs.declared.fault.DebugFault.{DebugFault}
 use Rattle.aom_debug_protocol.specs.declared.fault.DebugFault.TheVariants.{Ended}
 use Rattle.aom_debug.specs.Debugging.{Answer, Declined, GoesNext, GoesOver, LacksQueue, LacksWords, Looks, LooksAt, MachineSteps, Outgoing, Runs, Sees, SeesQueue, SeesWords, Sets, Steps, Turns, Unsets, UntilCommands}
@@ -33,6 +33,7 @@ module _ {X : Type 0} {B : X → Type 0} where
   Executes Cleanup = Looks (Sees inspect.Cleanup)
   Executes Actives = Looks (Sees inspect.Actives)
   Executes Timers = Looks (Sees inspect.Timers)
+  Executes Waiting = Looks (Sees inspect.Waiting)
   Executes History = Looks (Sees inspect.History)
   Executes (Words w) = LooksAt (SeesWords w) (LacksWords w)
   Executes (Queue w) = LooksAt (SeesQueue w) (LacksQueue w)

@@ -11,7 +11,7 @@ use Rattle.aom_debug_symbols.specs.NameLists.{NameLists}
 use Rattle.aom_debug_symbols.specs.Answers.{answer_by}
 use Rattle.aom_debug_symbols.specs.Commands.{command_by}
 use Rattle.aom_debug_protocol.specs.declared.command.Command.{Command}
-use Rattle.aom_debug_protocol.specs.declared.command.Command.TheVariants.{Step, MachineStep, Next, MachineNext, Finish, Turn, Go, Until, Break, Unbreak, Breaks, Clock, Frames, Help, Cells, Owners, Cleanup, Actives, History, Timers, Words, Queue, Print, Watch}
+use Rattle.aom_debug_protocol.specs.declared.command.Command.TheVariants.{Step, MachineStep, Next, MachineNext, Finish, Turn, Go, Until, Break, Unbreak, Breaks, Clock, Frames, Help, Cells, Owners, Cleanup, Actives, History, Timers, Waiting, Words, Queue, Print, Watch}
 use Rattle.aom_debug_protocol.specs.declared.fault.DebugFault.{DebugFault}
 use Rattle.aom_debug_protocol.specs.declared.fault.DebugFault.TheVariants as faults
 use Rattle.aom_debug_protocol.specs.Marks.{has_spot, is_set, without_spot}
@@ -29,7 +29,7 @@ use Rattle.aom_debug_paths.specs.Paths.{queue_answers, words_answers}
 use Rattle.aom_debug.specs.RunGoals.{RunGoals, GoesBy, GoesOver, GoesToBreakpoint, GoesToChange, GoesToPlace, ToLimit, TurnsOver, way_of}
 use Rattle.aom_debug_stepping.specs.declared.over.Awaited.TheVariants as scopes
 use Rattle.aom_debug.specs.Courses.{next_course, step_course}
-use Rattle.aom_debug.specs.Commands.{HasVariable, LacksVariable, NamesNoMark, NamesNoRoom, ShowsActives, ShowsBreaks, ShowsCells, ShowsCleanup, ShowsClock, ShowsFrames, ShowsHelp, ShowsOwners, ShowsQueue, ShowsRecent, ShowsTimers, ShowsVariable, ShowsWords, is_count, moved_text, spot_named, with_condition}
+use Rattle.aom_debug.specs.Commands.{HasVariable, LacksVariable, NamesNoMark, NamesNoRoom, ShowsActives, ShowsBreaks, ShowsCells, ShowsCleanup, ShowsClock, ShowsFrames, ShowsHelp, ShowsOwners, ShowsQueue, ShowsRecent, ShowsTimers, ShowsVariable, ShowsWaiting, ShowsWords, is_count, moved_text, spot_named, with_condition}
 
 -- where a session stands: at a state, with these breakpoints, these were the latest instructions, and all is told by the names and the lines of a text, where there is one
 pub record SessionState : Type 0 where
@@ -93,6 +93,7 @@ Does p outside Owners a text b = Shown (λ t. ShowsOwners a.names a.state t) a t
 Does p outside Cleanup a text b = Shown (λ t. ShowsCleanup a.names a.state t) a text b
 Does p outside Actives a text b = Shown (λ t. ShowsActives a.names p a.state t) a text b
 Does p outside Timers a text b = Shown (λ t. ShowsTimers a.names a.state t) a text b
+Does p outside Waiting a text b = Shown (λ t. ShowsWaiting a.names p a.state t) a text b
 Does p outside History a text b = Shown (λ t. ShowsRecent a.names a.recent t) a text b
 Does p outside (Words w) a text b = Shown (λ t. ShowsWords p a.state w t) a text b
 Does p outside (Queue w) a text b = Shown (λ t. ShowsQueue a.state w t) a text b

@@ -61,6 +61,7 @@ impl<'a> Debugger<'a> {
             Command::Frames => self.frames(out),
             Command::Help(verb) => self.help(verb, out),
             Command::Timers => self.timers(out),
+            Command::Waiting => self.waiting(out),
             Command::Words(path) => self.words_at(path, out),
             Command::Queue(path) => self.queue_at(path, out),
             Command::Print(variable) => self.print(variable, out),

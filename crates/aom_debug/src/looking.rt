@@ -5,7 +5,9 @@ ghost use Rattle.aom_debug_stepping.specs.Runners.{IsReady, KeepsRunner};
 ghost use Rattle.aom_debug.specs.Debugging.{Looks, Seen, SeenPart, Sees};
 
 use crate::Debugger;
-use crate::showing::{show_actives, show_cells, show_frames, show_owners, show_timers};
+use crate::showing::{
+    show_actives, show_cells, show_frames, show_owners, show_timers, show_waiting,
+};
 use aom_debug_protocol::{DebugFault, Verb, help_by};
 use aom_debug_stepping::Sink;
 use aom_debug_views::{report_breaks, report_cleanup, report_clock, report_recent, send};
@@ -34,6 +36,8 @@ pub enum Inspection {
     Help(Option<Verb>),
     /// The timers that run, the one that is due first before all others.
     Timers,
+    /// What is unfinished, by who completes it.
+    Waiting,
 }
 
 impl<'a> Debugger<'a> {
@@ -57,6 +61,7 @@ impl<'a> Debugger<'a> {
             Inspection::Frames => show_frames(&self.runner.machine, &self.names, out),
             Inspection::Help(verb) => send(help_by(verb), out),
             Inspection::Timers => show_timers(&self.runner.machine, &self.names, out),
+            Inspection::Waiting => show_waiting(&self.runner.machine, &self.names, out),
         }
     }
 

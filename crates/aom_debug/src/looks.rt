@@ -98,6 +98,17 @@ impl<'a> Debugger<'a> {
         self.inspect(Inspection::Timers, out)
     }
 
+    /// What is unfinished, by who completes it.
+    pub fn waiting<W: Sink>(&mut self, out: &mut W) -> Result<(), DebugFault>
+        requires agree { AllAgree (λ l. l.ids) (λ l. (⟦<dyn Native as Native>⟧ l.native.vtable).owed l.native.value) self.old.runner.machine.natives.slots.items }
+        requires ready { IsReady self.old.runner }
+        ensures agree { AllAgree (λ l. l.ids) (λ l. (⟦<dyn Native as Native>⟧ l.native.vtable).owed l.native.value) self.new.runner.machine.natives.slots.items }
+        ensures keeps { KeepsRunner self.old.runner self.new.runner }
+        ensures answer { Looks (Sees looks.Waiting) self.old self.new (record { before = W.out out.old; now = W.out out.new; failed = W.failed out.new }) result }
+    {
+        self.inspect(Inspection::Waiting, out)
+    }
+
     /// The methods at hand, the outermost first.
     pub fn frames<W: Sink>(&mut self, out: &mut W) -> Result<(), DebugFault>
         requires agree { AllAgree (λ l. l.ids) (λ l. (⟦<dyn Native as Native>⟧ l.native.vtable).owed l.native.value) self.old.runner.machine.natives.slots.items }

@@ -11,6 +11,7 @@ ghost use Rattle.aom_debug_views.specs.Frames.{frames_text};
 ghost use Rattle.aom_debug_views.specs.Owners.{owners, owners_text};
 ghost use Rattle.aom_debug_views.specs.CellViews.{cells_answers};
 ghost use Rattle.aom_debug_views.specs.Reporting.{Reports, ReportsPart, answers_by};
+ghost use Rattle.aom_debug_waiting.specs.Waiting.{told_text, waiting_told};
 ghost use Rattle.aom_debug.specs.Commands.{end_by, place_text};
 
 use aom_debug_protocol::DebugFault;
@@ -19,6 +20,7 @@ use aom_debug_symbols::SourceNames;
 use aom_debug_views::{
     report_actives, report_by, report_cells, report_frames, report_owners, report_timers, send,
 };
+use aom_debug_waiting::report_waiting;
 use aom_transcript::Page;
 
 /// The run's last line, where it is over.
@@ -83,6 +85,18 @@ pub fn show_timers<W: Sink>(
     ensures err { IfErr result (λ fault. ReportsTimersPart names.now machine.now.core fault (W.failed out.new) (W.out out.old) (W.out out.new)) }
 {
     report_timers(machine.core.parts(), machine.core.accepted(), names, out)
+}
+
+/// Writes what is unfinished.
+pub fn show_waiting<W: Sink>(
+    machine: &HostedMachine,
+    names: &SourceNames,
+    out: &mut W,
+) -> Result<(), DebugFault>
+    ensures ok { IfOk result (λ _. Reports machine.now.core (λ s. told_text names.now (waiting_told machine.now.core.image s)) (W.out out.old) (W.out out.new)) }
+    ensures err { IfErr result (λ fault. ReportsPart machine.now.core (λ s. told_text names.now (waiting_told machine.now.core.image s)) fault (W.failed out.new) (W.out out.old) (W.out out.new)) }
+{
+    report_waiting(machine.core.parts(), machine.core.accepted(), names, out)
 }
 
 /// Writes the methods at hand.

@@ -10,7 +10,7 @@ use Rattle.aom_debug_protocol.specs.Conditions.{condition_said}
 use Rattle.aom_debug_protocol.specs.declared.condition.Condition.{Condition}
 use Rattle.aom_debug_protocol.specs.declared.variable.Variable.{Variable}
 use Rattle.aom_debug_protocol.specs.declared.command.Command.{Command}
-use Rattle.aom_debug_protocol.specs.declared.command.Command.TheVariants.{Step, MachineStep, Next, MachineNext, Finish, Turn, Go, Until, Break, Unbreak, Breaks, Clock, Frames, Help, Cells, Owners, Cleanup, Actives, History, Timers, Words, Queue, Print, Watch}
+use Rattle.aom_debug_protocol.specs.declared.command.Command.TheVariants.{Step, MachineStep, Next, MachineNext, Finish, Turn, Go, Until, Break, Unbreak, Breaks, Clock, Frames, Help, Cells, Owners, Cleanup, Actives, History, Timers, Waiting, Words, Queue, Print, Watch}
 use Rattle.aom_debug_protocol.specs.Verbs.{verb_named}
 use Rattle.aom_debug_protocol.specs.declared.verb.Verb.{Verb}
 use Rattle.aom_debug_protocol.specs.declared.verb.Verb.TheVariants as v
@@ -32,6 +32,7 @@ command_of v.Cleanup = Some Cleanup
 command_of v.Actives = Some Actives
 command_of v.Recent = Some History
 command_of v.Timers = Some Timers
+command_of v.Waiting = Some Waiting
 command_of verb = None
 
 abbrev pub alone : Verb → List (List ℕ) → Option Command

@@ -2,7 +2,7 @@
 use Rattle.std.specs.Prelude.{ℕ, List, [], ◌++◌, codes, Option, Some, None}
 use Rattle.aom_transcript.specs.Text.{ended}
 use Rattle.aom_debug_protocol.specs.declared.verb.Verb.{Verb}
-use Rattle.aom_debug_protocol.specs.declared.verb.Verb.TheVariants.{Step, Next, Finish, Turn, Go, Until, Break, Unbreak, Breaks, Cells, Owners, Cleanup, Actives, Frames, Words, Queue, Print, Watch, Recent, Clock, Timers, Help, Quit}
+use Rattle.aom_debug_protocol.specs.declared.verb.Verb.TheVariants.{Step, Next, Finish, Turn, Go, Until, Break, Unbreak, Breaks, Cells, Owners, Cleanup, Actives, Frames, Words, Queue, Print, Watch, Recent, Clock, Timers, Waiting, Help, Quit}
 
 -- a command with its words, and what it does
 abbrev pub help_line : List ℕ → List ℕ → List ℕ
@@ -31,6 +31,7 @@ usage Print = help_line (codes "print VARIABLE") (codes "what it has")
 usage Recent = help_line (codes "recent") (codes "the latest instructions")
 usage Clock = help_line (codes "clock") (codes "the time")
 usage Timers = help_line (codes "timers") (codes "who is due, and when")
+usage Waiting = help_line (codes "waiting") (codes "what is unfinished, and who completes it")
 usage Help = help_line (codes "help") (codes "all commands")
 usage Quit = help_line (codes "quit") (codes "the end of the session")
 
@@ -46,7 +47,7 @@ help_marks = usage Break ++ (usage Unbreak ++ usage Breaks)
 abbrev pub help_looks : List ℕ
 help_looks =
     usage Cells ++ (usage Owners ++ (usage Cleanup ++ (usage Actives ++ (usage Frames
-    ++ (usage Words ++ (usage Queue ++ (usage Print ++ (usage Recent ++ (usage Clock ++ (usage Timers ++ usage Help))))))))))
+    ++ (usage Words ++ (usage Queue ++ (usage Print ++ (usage Recent ++ (usage Clock ++ (usage Timers ++ (usage Waiting ++ usage Help)))))))))))
 
 -- how a place is told
 abbrev pub help_places : List ℕ

@@ -2,7 +2,7 @@
 use Rattle.std.specs.Prelude.{ℕ, if◌then◌else◌, List, codes, Option, Some, None}
 use Rattle.std.specs.Str.{bytes_eq}
 use Rattle.aom_debug_protocol.specs.declared.verb.Verb.{Verb}
-use Rattle.aom_debug_protocol.specs.declared.verb.Verb.TheVariants.{Step, Next, Finish, Turn, Go, Until, Break, Unbreak, Breaks, Cells, Owners, Cleanup, Actives, Frames, Words, Queue, Print, Watch, Recent, Clock, Timers, Help, Quit}
+use Rattle.aom_debug_protocol.specs.declared.verb.Verb.TheVariants.{Step, Next, Finish, Turn, Go, Until, Break, Unbreak, Breaks, Cells, Owners, Cleanup, Actives, Frames, Words, Queue, Print, Watch, Recent, Clock, Timers, Waiting, Help, Quit}
 
 -- those that look
 abbrev pub verb_looking : List ℕ → Option Verb
@@ -18,6 +18,7 @@ verb_looking name =
     else if bytes_eq name (codes "recent") then Some Recent
     else if bytes_eq name (codes "clock") then Some Clock
     else if bytes_eq name (codes "timers") then Some Timers
+    else if bytes_eq name (codes "waiting") then Some Waiting
     else None
 
 -- and those that set breakpoints, tell of the commands, and end them

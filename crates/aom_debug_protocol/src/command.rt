@@ -43,6 +43,8 @@ pub enum Command {
     Clock,
     /// The timers that run.
     Timers,
+    /// What is unfinished.
+    Waiting,
     /// The methods at hand.
     Frames,
     /// What is told of that command, or of all.
@@ -237,6 +239,7 @@ fn command_of(verb: Verb) -> Option<Command>
         Verb::Actives => Some(Command::Actives),
         Verb::Recent => Some(Command::History),
         Verb::Timers => Some(Command::Timers),
+        Verb::Waiting => Some(Command::Waiting),
         _ => None,
     }
 }

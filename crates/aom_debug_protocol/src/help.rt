@@ -81,6 +81,7 @@ print VARIABLE: what it has
 recent: the latest instructions
 clock: the time
 timers: who is due, and when
+waiting: what is unfinished, and who completes it
 help: all commands
 METHOD PLACE: by their numbers; with a text also NAME PLACE or line LINE
 "
@@ -123,6 +124,7 @@ fn help_of(verb: Verb) -> &'static [u8]
         Verb::Recent => b"recent: the latest instructions\n".as_slice(),
         Verb::Clock => b"clock: the time\n".as_slice(),
         Verb::Timers => b"timers: who is due, and when\n".as_slice(),
+        Verb::Waiting => b"waiting: what is unfinished, and who completes it\n".as_slice(),
         Verb::Help => HELP,
         Verb::Quit => QUIT,
     }

@@ -26,6 +26,7 @@ pub enum Verb {
     Recent,
     Clock,
     Timers,
+    Waiting,
     Help,
     Quit,
 }
@@ -130,6 +131,8 @@ fn verb_looking(name: &[u8]) -> Option<Verb>
         Some(Verb::Clock)
     } else if name == b"timers".as_slice() {
         Some(Verb::Timers)
+    } else if name == b"waiting".as_slice() {
+        Some(Verb::Waiting)
     } else {
         None
     }

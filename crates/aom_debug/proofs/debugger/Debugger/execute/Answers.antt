@@ -301,6 +301,21 @@ returns-in-Timers-clause-keeps g c = c.timers.ensures.keeps
 pub returns-in-Timers-clause-answer : goal.returns-in-Timers-clause-answer
 returns-in-Timers-clause-answer g c = rw c.in-Timers.is c.timers.ensures.answer
 
+pub waiting-requires-clause-agree : goal.waiting-requires-clause-agree
+waiting-requires-clause-agree g c = c.requires.agree
+
+pub waiting-requires-clause-ready : goal.waiting-requires-clause-ready
+waiting-requires-clause-ready g c = c.requires.ready
+
+pub returns-in-Waiting-clause-agree : goal.returns-in-Waiting-clause-agree
+returns-in-Waiting-clause-agree g c = c.waiting.ensures.agree
+
+pub returns-in-Waiting-clause-keeps : goal.returns-in-Waiting-clause-keeps
+returns-in-Waiting-clause-keeps g c = c.waiting.ensures.keeps
+
+pub returns-in-Waiting-clause-answer : goal.returns-in-Waiting-clause-answer
+returns-in-Waiting-clause-answer g c = rw c.in-Waiting.is c.waiting.ensures.answer
+
 pub words_at-requires-clause-agree : goal.words_at-requires-clause-agree
 words_at-requires-clause-agree g c = c.requires.agree
 

@@ -91,3 +91,11 @@ returns-in-Timers-clause-ok g c = rw c.in-Timers.is
 pub returns-in-Timers-clause-err : goal.returns-in-Timers-clause-err
 returns-in-Timers-clause-err g c = rw c.in-Timers.is (IfErr-weaker c.show_timers.result _ _
     (λ fault part. (part.reported, part.fails, (λ s st. (_, (_, part.order s st.stands, refl), part.out s st.stands)))) c.show_timers.ensures.err)
+
+pub returns-in-Waiting-clause-ok : goal.returns-in-Waiting-clause-ok
+returns-in-Waiting-clause-ok g c =
+    rw c.in-Waiting.is (IfOk-weaker c.show_waiting.result _ _ (λ done reports s st. (_, refl, reports.out s st.stands)) c.show_waiting.ensures.ok)
+
+pub returns-in-Waiting-clause-err : goal.returns-in-Waiting-clause-err
+returns-in-Waiting-clause-err g c = rw c.in-Waiting.is
+    (IfErr-weaker c.show_waiting.result _ _ (λ fault part. (part.reported, part.fails, (λ s st. (_, refl, part.out s st.stands)))) c.show_waiting.ensures.err)
